@@ -1,0 +1,5 @@
+-- `Dividing`: divisors, Euclid's algorithm and Bezout. `Congruences`: laws of congruence. `Absorbing`: when every prime of one number
+-- divides another.
+pub mod Dividing
+pub mod Congruences
+pub mod Absorbing
