@@ -1,0 +1,67 @@
+-- When two positions share a value of f: by the difference of the two values, which is a product.
+use mathlib.Core.Path.{_≡_, refl, sym, ap, _∙_, subst}
+use mathlib.Core.Logic.{_≢_}
+use Prim.Native.Nat.{ℕ, _+_, _-_, _*_, _/_, _%_, _≤_, _<_, _∣_}
+use native.Mathlib.Nat.{dvd-mul-right, dvd-mul-right-of-dvd, div-add-mod, mod-lt, le-of-dvd}
+use native.Mathlib.Decide.{decLt}
+use native.Mathlib.Omega.{arith}
+use Rattle.numbers.specs.Congruence.{Cong}
+use Rattle.numbers.proofs.Congruences.{cong-eq, cong-sym, cong-same, same-cong, cong-zero, zero-cong, cong-cancel, cong-add, cong-mul, cong-mod, cong-dvd, _⨾_}
+use Rattle.triples.specs.declared.Triple.{Triple}
+use Rattle.triples.specs.Shuffles.{f, Permutes}
+
+-- f before the remainder
+abbrev pub sum : Triple → ℕ → ℕ
+sum t x = t .f1 * x + t .f2 * (x * x)
+
+-- f1 + f2·(x + y), at y = x + d
+abbrev pub slope : Triple → ℕ → ℕ → ℕ
+slope t x d = t .f1 + t .f2 * (2 * x + d)
+
+rise : (t : Triple) (x d : ℕ) → sum t (x + d) ≡ sum t x + d * slope t x d
+rise t x d = omega arith
+
+pub differ : (t : Triple) (x d : ℕ) → f t x ≡ f t (x + d) → t .k ∣ d * slope t x d
+differ t x d e =
+    cong-zero (cong-cancel (sum t x) (cong-eq (sym (rise t x d)) ⨾ same-cong (sum t (x + d)) (sum t x) (sym e) ⨾ cong-eq (omega arith)))
+
+pub agree : (t : Triple) (x d : ℕ) → t .k ∣ d * slope t x d → f t x ≡ f t (x + d)
+agree t x d h =
+    cong-same (cong-eq {x = sum t x} {y = sum t x + 0} (omega arith) ⨾ cong-add {x = sum t x} (cong-eq refl) (cong-sym (zero-cong (d * slope t x d) h)) ⨾ cong-eq (sym (rise t x d)))
+
+-- f depends on the remainder of the position alone
+pub wrap : (t : Triple) (x : ℕ) → f t (x % t .k) ≡ f t x
+wrap t x =
+    agree t (x % t .k) (t .k * (x / t .k)) (dvd-mul-right-of-dvd (t .k) (dvd-mul-right (t .k) (x / t .k)) (slope t (x % t .k) (t .k * (x / t .k))))
+    ∙ ap (λ (n : ℕ). f t n) (omega (arith, div-add-mod x (t .k)))
+
+-- ---- two positions from a difference, and none from no difference
+
+-- a difference below K at which the two values agree
+pub record Clash (t : Triple) : Type 0 where
+  pub x : ℕ
+  pub d : ℕ
+  pub some : 0 < d
+  pub less : d < t .k
+  pub product : t .k ∣ d * slope t x d
+
+pub clash : {t : Triple} → Clash t → ¬ Permutes t
+clash {t} c permutes =
+    let K : ℕ = t .k in
+    let same : f t (c .x % t .k) ≡ f t ((c .x + c .d) % t .k) = wrap t (c .x) ∙ agree t (c .x) (c .d) (c .product) ∙ sym (wrap t (c .x + c .d)) in
+    let one : c .x % t .k ≡ (c .x + c .d) % t .k =
+    permutes (c .x % t .k) ((c .x + c .d) % t .k) (mod-lt (c .x) (omega (arith, c .less))) (mod-lt (c .x + c .d) (omega (arith, c .less))) same in
+    let dv : t .k ∣ c .x + c .d - c .x = cong-dvd (c .x) (c .x + c .d) (omega arith) (same-cong (c .x) (c .x + c .d) one) in
+    omega (arith, c .some, c .less, le-of-dvd {n = c .x + c .d - c .x} (omega (arith, c .some)) dv)
+
+pub apart : (t : Triple) → ((x d : ℕ) → 0 < d → d < t .k → ¬ (t .k ∣ d * slope t x d)) → Permutes t
+apart t h x y lx ly e = go (decLt x y) (decLt y x)
+  where
+    up : (a b : ℕ) → a < b → b < t .k → f t a ≡ f t b → ⊥
+    up a b l m e =
+        h a (b - a) (omega arith) (omega arith) (differ t a (b - a) (e ∙ ap (λ (n : ℕ). f t n) (omega arith)))
+
+    go : Dec (x < y) → Dec (y < x) → x ≡ y
+    go (yes l) r = absurd (up x y l ly e)
+    go (no l) (yes m) = absurd (up y x m lx (sym e))
+    go (no l) (no m) = omega arith

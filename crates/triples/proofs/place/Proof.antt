@@ -1,0 +1,58 @@
+-- `place` meets its contract: each factor is below 8192, so that the sum is far below 2 to the 64th.
+use mathlib.Core.Path.{refl}
+use Prim.Native.Nat.{ℕ, _+_, _*_, _≤_}
+use native.Mathlib.Nat.{mul-le-mul, mod-lt}
+use native.Mathlib.Omega.{arith}
+use borrow.Author.Needs.{needs}
+use Rattle.triples.proofs.place.Statement.{statement}
+use Rattle.triples.proofs.place.Tie as tie
+
+line-small : (a x : ℕ) → a ≤ 8191 → x ≤ 8191 → a * x ≤ 8191 * 8191
+line-small a x h l = mul-le-mul {n₁ = a} {m₁ = x} h l
+
+square-small : (a x : ℕ) → a ≤ 8191 → x ≤ 8191 → a * (x * x) ≤ 8191 * (8191 * 8191)
+square-small a x h l = mul-le-mul {n₁ = a} {m₁ = x * x} h (line-small x x l l)
+
+cast-first : tie.Need-cast-first
+cast-first c = search needs
+
+mul-first : tie.Need-mul-first
+mul-first c = let a = c .before .args in omega (arith, line-small (a .t .f1) (a .x) (omega arith) (omega arith))
+
+cast-second : tie.Need-cast-second
+cast-second c = search needs
+
+mul-second : tie.Need-mul-second
+mul-second c = let x = c .before .before .args .x in omega (arith, line-small x x (omega arith) (omega arith))
+
+mul-second-2 : tie.Need-mul-second-2
+mul-second-2 c =
+    let a = c .before .before .args in omega (arith, square-small (a .t .f2) (a .x) (omega arith) (omega arith))
+
+add-result : tie.Need-add-result
+add-result c =
+    let a = c .before .before .args in
+    omega (arith, line-small (a .t .f1) (a .x) (omega arith) (omega arith), square-small (a .t .f2) (a .x) (omega arith) (omega arith))
+
+cast-result : tie.Need-cast-result
+cast-result c = search needs
+
+rem-result : tie.Need-rem-result
+rem-result c = search needs
+
+returns : tie.Need-returns
+returns c = let a = c .before .before .before .args in (refl, mod-lt (a .t .f1 * a .x + a .t .f2 * (a .x * a .x)) (omega arith))
+
+pub place-spec : {M : Type 1} → statement M
+place-spec =
+    tie.close
+    (tie.spec
+    cast-first
+    mul-first
+    cast-second
+    mul-second
+    mul-second-2
+    add-result
+    cast-result
+    rem-result
+    returns)

@@ -1,0 +1,34 @@
+-- What a triple means. These are definitions, in the words of the scope.
+use mathlib.Core.Path.{_≡_}
+use mathlib.Core.Bool.{Bool, true, false, cond}
+use Prim.Native.Nat.{ℕ, _+_, _*_, _/_, _%_, _≤_, _<_}
+use lib.Dec.{eqb}
+use Rattle.triples.specs.declared.Triple.{Triple}
+
+-- The triple of three numbers.
+abbrev pub triple : ℕ → ℕ → ℕ → Triple
+triple k f1 f2 = record { k = k; f1 = f1; f2 = f2 }
+
+-- f(x) = (f1·x + f2·x²) mod K.
+abbrev pub f : Triple → ℕ → ℕ
+f t x = (t .f1 * x + t .f2 * (x * x)) % t .k
+
+-- K is from 2 to 8,192, and both coefficients are below K.
+pub record InRange (t : Triple) : Type 0 where
+  pub low : 2 ≤ t .k
+  pub high : t .k ≤ 8192
+  pub first : t .f1 < t .k
+  pub second : t .f2 < t .k
+
+-- f permutes when no two positions share a value.
+abbrev pub Permutes : Triple → Type 0
+Permutes t = (x y : ℕ) → x < t .k → y < t .k → f t x ≡ f t y → x ≡ y
+
+-- The odd form: where K and f1 are even, K/2 is added to both coefficients modulo K; in all other cases it is the pair itself.
+abbrev pub oddForm : Triple → Triple
+oddForm t =
+    cond (eqb (t .k % 2) 0)
+    (cond (eqb (t .f1 % 2) 0)
+    (triple (t .k) ((t .f1 + t .k / 2) % t .k) ((t .f2 + t .k / 2) % t .k))
+    t)
+    t
