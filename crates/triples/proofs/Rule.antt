@@ -10,7 +10,7 @@ use Rattle.numbers.specs.Divisors.{IsGcd, Coprime, Absorbed, Decides}
 use Rattle.numbers.proofs.Dividing.{factors-pos, dvd-make, quotient, euclid, unit-of, Unit-of, coprime-swap, gcd-one, gcd-of}
 use Rattle.numbers.proofs.Absorbing.{Rest, rest-of}
 use Rattle.triples.specs.declared.Triple.{Triple}
-use Rattle.triples.specs.Shuffles.{f, InRange, Permutes, oddForm}
+use Rattle.triples.specs.Shuffles.{f, InRange, Permutes, Shuffle, oddForm}
 use Rattle.triples.proofs.Values.{slope, Clash, clash, apart}
 use Rattle.triples.proofs.Forms.{Form, odd-form, form-permutes, permutes-form}
 
@@ -213,3 +213,34 @@ decided-by-absorption {t} {o} g range e is one d =
           λ z. rule-enough range (subst (λ (w : Triple). Rule w) e (record { coprime = gcd-one is one; absorbed = d .yes-only-if z }));
       no-only-if = λ z permutes. d .no-only-if z (subst (λ (w : Triple). Rule w) (sym e) (permutes-rule range permutes) .absorbed);
     }
+
+-- ---- the odd form of a shuffle, as code holds it
+
+-- f1 is a unit, and every prime of K divides f2
+pub record OddUnit (t o : Triple) : Type 0 where
+  pub length : o .k ≡ t .k
+  pub first : o .f1 < t .k
+  pub second : o .f2 < t .k
+  pub coprime : Coprime (o .f1) (t .k)
+  pub absorbed : Absorbed (t .k) (o .f2)
+  pub same : (x : ℕ) → f o x ≡ f t x
+
+pub odd-unit : {t o : Triple} → Shuffle t → o ≡ oddForm t → OddUnit t o
+odd-unit {t} {o} s e = subst (λ (w : Triple). OddUnit t w) (sym e) unit
+  where
+    form : Form t (oddForm t)
+    form = odd-form t (s .range)
+
+    rule : Rule (oddForm t)
+    rule = permutes-rule (s .range) (s .permutes)
+
+    unit : OddUnit t (oddForm t)
+    unit =
+        record {
+          length = form .length;
+          first = omega (arith, form .range .first, form .length);
+          second = omega (arith, form .range .second, form .length);
+          coprime = subst (λ (n : ℕ). Coprime (oddForm t .f1) n) (form .length) (rule .coprime);
+          absorbed = subst (λ (n : ℕ). Absorbed n (oddForm t .f2)) (form .length) (rule .absorbed);
+          same = form .same;
+        }

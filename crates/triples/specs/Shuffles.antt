@@ -24,6 +24,11 @@ pub record InRange (t : Triple) : Type 0 where
 abbrev pub Permutes : Triple → Type 0
 Permutes t = (x y : ℕ) → x < t .k → y < t .k → f t x ≡ f t y → x ≡ y
 
+-- A shuffle: an accepted triple.
+pub record Shuffle (t : Triple) : Type 0 where
+  pub range : InRange t
+  pub permutes : Permutes t
+
 -- The odd form: where K and f1 are even, K/2 is added to both coefficients modulo K; in all other cases it is the pair itself.
 abbrev pub oddForm : Triple → Triple
 oddForm t =

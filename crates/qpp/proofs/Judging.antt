@@ -1,0 +1,93 @@
+-- What acceptance means, for it and for every call that begins with it.
+use mathlib.Core.Path.{_≡_, refl, sym, _∙_}
+use mathlib.Core.Logic.{_≢_, _⊎_, inl, inr, ⊎-elim}
+use mathlib.Core.List.{List, [], _∷_}
+use Prim.Native.Nat.{ℕ, _≤_, _<_}
+use native.Mathlib.Decide.{ℕ-discrete, decLt}
+use native.Mathlib.Omega.{arith}
+use Rattle.triples.specs.declared.Triple.{Triple}
+use Rattle.triples.specs.Shuffles.{InRange, Permutes, Shuffle}
+use Rattle.qpp.proofs.Answers.{answered, refusing}
+use Rattle.qpp.specs.Refusals.{Test, First, Answer, shuffle-then, no-length, no-coefficient, no-shuffle}
+
+-- "not two positions share a value" may be shown by its contrary's
+permutes-stable : (t : Triple) → ¬ (¬ Permutes t) → Permutes t
+permutes-stable t h x y lx ly e = pick (ℕ-discrete x y)
+  where
+    pick : Dec (x ≡ y) → x ≡ y
+    pick (yes s) = s
+    pick (no s) = absurd (h (λ p. s (p x y lx ly e)))
+
+in-range : (t : Triple) → ¬ (no-length t .applies) → ¬ (no-coefficient t .applies) → InRange t
+in-range t p q = record { low = low (decLt (t .k) 2); high = high (decLt 8192 (t .k)); first = first (decLt (t .f1) (t .k)); second = second (decLt (t .f2) (t .k)) }
+  where
+    low : Dec (t .k < 2) → 2 ≤ t .k
+    low (yes h) = absurd (p (inl h))
+    low (no h) = omega arith
+
+    high : Dec (8192 < t .k) → t .k ≤ 8192
+    high (yes h) = absurd (p (inr h))
+    high (no h) = omega arith
+
+    first : Dec (t .f1 < t .k) → t .f1 < t .k
+    first (yes h) = h
+    first (no h) = absurd (q (inl (omega arith)))
+
+    second : Dec (t .f2 < t .k) → t .f2 < t .k
+    second (yes h) = h
+    second (no h) = absurd (q (inr (omega arith)))
+
+length-right : {t : Triple} → InRange t → ¬ (no-length t .applies)
+length-right r (inl h) = omega (arith, r .low)
+length-right r (inr h) = omega (arith, r .high)
+
+coefficient-right : {t : Triple} → InRange t → ¬ (no-coefficient t .applies)
+coefficient-right r (inl h) = omega (arith, r .first)
+coefficient-right r (inr h) = omega (arith, r .second)
+
+-- ---- the three tests, each as the code comes to it
+
+pub refuse-length : {t : Triple} (more : List Test) → no-length t .applies → First (shuffle-then t more) 1
+refuse-length more h = inl (refl, h)
+
+pub refuse-coefficient : {t : Triple} (more : List Test) → 2 ≤ t .k → t .k ≤ 8192 → no-coefficient t .applies → First (shuffle-then t more) 2
+refuse-coefficient {t} more low high h = inr (⊎-elim (λ p. omega arith) (λ p. omega arith), inl (refl, h))
+
+pub refuse-shuffle : {t : Triple} (more : List Test) → InRange t → ¬ Permutes t → First (shuffle-then t more) 3
+refuse-shuffle more r h = inr (length-right r, inr (coefficient-right r, inl (refl, h)))
+
+-- a shuffle comes to the tests that follow
+pub shuffle-passes : {t : Triple} {n : ℕ} (more : List Test) → Shuffle t → First more n → First (shuffle-then t more) n
+shuffle-passes more s h = inr (length-right (s .range), inr (coefficient-right (s .range), inr ((λ no. no (s .permutes)), h)))
+
+-- ---- what the three tests say
+
+-- 0 is given only to a shuffle
+pub accepted : {t : Triple} {n : ℕ} → First (shuffle-then t []) n → n ≡ 0 → Shuffle t
+accepted (inl p) z = absurd (omega (arith, p .0))
+accepted (inr (p, inl q)) z = absurd (omega (arith, q .0))
+accepted (inr (p, inr (q, inl r))) z = absurd (omega (arith, r .0))
+accepted {t} (inr (p, inr (q, inr (r, e)))) z = record { range = in-range t p q; permutes = permutes-stable t r }
+
+-- a refusal stays one, whatever tests follow
+stays-refused : {t : Triple} {n : ℕ} (more : List Test) → First (shuffle-then t []) n → n ≢ 0 → First (shuffle-then t more) n
+stays-refused more (inl p) ne = inl p
+stays-refused more (inr (p, inl q)) ne = inr (p, inl q)
+stays-refused more (inr (p, inr (q, inl r))) ne = inr (p, inr (q, inl r))
+stays-refused more (inr (p, inr (q, inr (r, e)))) ne = absurd (ne e)
+
+-- ---- the answers of a call that begins with these tests
+
+-- the triple is refused
+pub refuse-triple : {t : Triple} {more : List Test} {n m : ℕ} {Done Nothing : Type 0} → m ≡ n → First (shuffle-then t []) n → n ≢ 0 → Nothing
+    → Answer (shuffle-then t more) m Done Nothing
+refuse-triple {t} {more} e first ne nothing = refusing e (stays-refused more first ne) ne nothing
+
+-- the triple is accepted, and one of the tests that follow refuses
+pub refuse-later : {t : Triple} {more : List Test} {n m : ℕ} {Done Nothing : Type 0} → m ≡ n → Shuffle t → First more n → n ≢ 0 → Nothing
+    → Answer (shuffle-then t more) m Done Nothing
+refuse-later {t} {more} e s first ne nothing = refusing e (shuffle-passes more s first) ne nothing
+
+-- no test refuses
+pub answer-all : {t : Triple} {more : List Test} {Done Nothing : Type 0} → Shuffle t → First more 0 → Done → Answer (shuffle-then t more) 0 Done Nothing
+answer-all {t} {more} s first done = answered (shuffle-passes more s first) done

@@ -1,0 +1,3 @@
+-- `Answers`: laws of the table and of answers. `Judging`: what acceptance means.
+pub mod Answers
+pub mod Judging

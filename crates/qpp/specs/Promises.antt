@@ -1,0 +1,21 @@
+-- What each call promises, on every input. These are definitions.
+use mathlib.Core.Path.{_≡_}
+use mathlib.Core.List.{List, [], _∷_}
+use Prim.Native.Nat.{ℕ}
+use Rattle.numbers.specs.Congruence.{Reciprocal}
+use Rattle.triples.specs.declared.Triple.{Triple}
+use Rattle.triples.specs.Shuffles.{f, oddForm}
+use Rattle.qpp.specs.declared.shuffles.Value.{Value}
+use Rattle.qpp.specs.Refusals.{Test, First, Answer, shuffle-then, no-position}
+
+-- Acceptance: the number.
+abbrev pub Acceptance : Triple → ℕ → Type 0
+Acceptance t number = First (shuffle-then t []) number
+
+-- The address of a position.
+abbrev pub Address : Triple → ℕ → Value → Type 0
+Address t x r = Answer (shuffle-then t (no-position t x ∷ [])) (r .number) (r .value ≡ f t x) (r .value ≡ 0)
+
+-- The reciprocal of f1, with f1 of the odd form.
+abbrev pub ReciprocalOf : Triple → Value → Type 0
+ReciprocalOf t r = Answer (shuffle-then t []) (r .number) (Reciprocal (t .k) (oddForm t .f1) (r .value)) (r .value ≡ 0)

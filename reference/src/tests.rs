@@ -1,0 +1,179 @@
+//! Document 01's own cases, and the inverse against all polynomials where they can be listed.
+
+use crate::shuffle::*;
+use crate::{card_input, cards, inverses};
+
+fn t(k: u32, f1: u32, f2: u32) -> Triple {
+    Triple::new(k, f1, f2)
+}
+
+/// D and a1 to aD.
+fn coefficients(triple: Triple) -> Vec<u32> {
+    let answer = inverse(triple);
+    assert_eq!(answer.number, DONE);
+    assert!(answer.places[answer.degree as usize..].iter().all(|&a| a == 0));
+    answer.places[..answer.degree as usize].to_vec()
+}
+
+fn moved(triple: Triple, text: &str, direction: Direction) -> String {
+    let mut block = text.as_bytes().to_vec();
+    assert_eq!(move_block(triple, &mut block, &mut [170; 2], direction), DONE);
+    String::from_utf8(block).unwrap()
+}
+
+fn card_output(input: &[u8]) -> String {
+    let mut out = Vec::new();
+    cards::write(input, &mut out).unwrap();
+    String::from_utf8(out).unwrap()
+}
+
+#[test]
+fn acceptance_cases() {
+    for triple in [t(2, 0, 1), t(4, 1, 2), t(6, 2, 3), t(8192, 1, 2)] {
+        assert_eq!(triple.acceptance(), DONE);
+    }
+    for triple in [t(2, 1, 1), t(3, 1, 1), t(4, 1, 1), t(5, 0, 0)] {
+        assert_eq!(triple.acceptance(), NOT_PERMUTING);
+    }
+    assert_eq!(t(1, 0, 0).acceptance(), BAD_K);
+    assert_eq!(t(8193, 1, 2).acceptance(), BAD_K);
+    assert_eq!(t(5, 5, 0).acceptance(), BAD_COEFFICIENT);
+}
+
+#[test]
+fn address_cases() {
+    assert_eq!(t(3, 1, 1).values(), [0, 2, 0]);
+    assert_eq!(t(4, 1, 2).values(), [0, 3, 2, 1]);
+    assert_eq!(t(6, 2, 3).values(), [0, 5, 4, 3, 2, 1]);
+    assert_eq!(t(9, 1, 3).address(8), (DONE, 2));
+    assert_eq!(t(9, 1, 3).address(9), (BAD_POSITION, 0));
+    assert_eq!(t(40, 3, 10).reciprocal(), (DONE, 27));
+}
+
+#[test]
+fn inverse_cases() {
+    assert_eq!(coefficients(t(2, 0, 1)), [1]);
+    assert_eq!(coefficients(t(4, 1, 2)), [3]);
+    assert_eq!(coefficients(t(6, 2, 3)), [5]);
+    assert_eq!(coefficients(t(8, 1, 4)), [5]);
+    assert_eq!(coefficients(t(9, 1, 3)), [1, 6]);
+    assert_eq!(coefficients(t(40, 3, 10)), [27, 10]);
+    assert_eq!(coefficients(t(1504, 23, 94)), [1079, 470, 376]);
+    assert_eq!(coefficients(t(6016, 23, 94)), [1831, 2350, 1880, 376]);
+}
+
+#[test]
+fn arp_case() {
+    let form = arp(t(8, 1, 4));
+    assert_eq!((form.p, form.q, form.shifts), (1, 2, vec![0, 4]));
+}
+
+#[test]
+fn block_cases() {
+    assert_eq!(moved(t(6, 2, 3), "ABCDEF", Direction::Interleave), "AFEDCB");
+    assert_eq!(moved(t(9, 1, 3), "ABCDEFGHI", Direction::Interleave), "AEFDHIGBC");
+    assert_eq!(moved(t(9, 1, 3), "ABCDEFGHI", Direction::Deinterleave), "AHIDBCGEF");
+}
+
+#[test]
+fn block_and_scratch_lengths() {
+    let cases = [(8, 2, BAD_BLOCK), (10, 2, BAD_BLOCK), (8, 1, BAD_BLOCK), (9, 1, SHORT_SCRATCH)];
+    for (length, scratch_length, number) in cases {
+        let mut block: Vec<u8> = (0..length).collect();
+        let mut scratch = vec![170; scratch_length];
+        assert_eq!(move_block(t(9, 1, 3), &mut block, &mut scratch, Direction::Interleave), number);
+        assert_eq!(block, (0..length).collect::<Vec<u8>>());
+        assert_eq!(scratch, vec![170; scratch_length]);
+    }
+    let mut scratch = [170; 3];
+    assert_eq!(move_block(t(9, 1, 3), &mut [7i16; 9], &mut scratch, Direction::Deinterleave), DONE);
+    assert_eq!(scratch, [0, 0, 170]);
+    assert_eq!(move_block(t(9, 1, 3), &mut [7i16; 9], &mut [1; 2], Direction::Deinterleave), DONE);
+}
+
+#[test]
+fn walker_and_list() {
+    let (number, mut walker) = start(t(6, 2, 3));
+    assert_eq!(number, DONE);
+    for expected in [0, 5, 4, 3, 2, 1, 0, 5] {
+        let (number, address, next) = step(walker);
+        assert_eq!((number, address), (DONE, expected));
+        walker = next;
+    }
+    let zeros = Walker { triple: t(0, 0, 0), at: 0 };
+    assert_eq!(start(t(4, 1, 1)), (NOT_PERMUTING, zeros));
+    assert_eq!(step(Walker { triple: t(4, 1, 1), at: 4 }), (BAD_POSITION, 0, zeros));
+    assert_eq!(step(Walker { triple: t(4, 1, 1), at: 3 }), (DONE, 0, Walker { triple: t(4, 1, 1), at: 0 }));
+    let mut list = [65535; 5];
+    assert_eq!(address_list(t(4, 1, 2), &mut list[..3]), SHORT_LIST);
+    assert_eq!(list, [65535; 5]);
+    assert_eq!(address_list(t(4, 1, 2), &mut list), DONE);
+    assert_eq!(list, [0, 3, 2, 1, 65535]);
+}
+
+#[test]
+fn sample_cards() {
+    let expected = "40 3 10 ok 2 27 10 3 2 3\n8 1 4 ok 1 5 1 2 2\n8 2 4 refused 3\n9000 1 0 refused 1\n";
+    assert_eq!(card_output(b"40 3 10\n8 1 4\n8 2 4\n9000 1 0\n"), expected);
+}
+
+#[test]
+fn unreadable_cards() {
+    assert_eq!(card_output(b""), "");
+    assert_eq!(card_output(b"8 1 4"), "unreadable\n");
+    assert_eq!(card_output(b"\n00008 01 4\n8 1 4\r\n"), "unreadable\n8 1 4 ok 1 5 1 2 2\nunreadable\n");
+    for line in ["8 1", "8 1 4 ", " 8 1 4", "8  1 4", "8 1 4 1", "000008 1 4", "+8 1 4", "8 1 \u{664}"] {
+        assert_eq!(card_output(format!("{line}\n").as_bytes()), "unreadable\n");
+    }
+}
+
+#[test]
+fn card_input_is_as_meant() {
+    let mut input = Vec::new();
+    card_input::write(&mut input).unwrap();
+    assert!(input.starts_with(b"40 3 10\n8 1 4\n8 2 4\n9000 1 0\n") && input.ends_with(b"\n8 1 4"));
+    assert!(input.len() < 600_000);
+    for line in card_input::unreadable_lines() {
+        assert_eq!(card_output(&[&line[..], b"\n"].concat()), "unreadable\n");
+    }
+    assert_eq!(inverses::standard_rows().len(), 188);
+}
+
+/// Every list of coefficients with the given count of choices at each degree.
+fn all_lists(choices: &[u64]) -> Vec<Vec<u32>> {
+    choices.iter().fold(vec![Vec::new()], |lists, &count| {
+        let longer = |list: &Vec<u32>| {
+            let list = list.clone();
+            (0..count as u32).map(move |a| [&list[..], &[a]].concat())
+        };
+        lists.iter().flat_map(longer).collect()
+    })
+}
+
+fn undoes(triple: Triple, list: &[u32], constant: u32) -> bool {
+    let mut places = [0; 13];
+    places[..list.len()].copy_from_slice(list);
+    (0..triple.k).all(|x| (evaluate(&places, triple.f(x), triple.k) + constant) % triple.k == x)
+}
+
+/// Inside the limits just one polynomial undoes f, and none of lower degree does, constant or not.
+#[test]
+fn inverse_is_the_only_one() {
+    for k in [2, 3, 4, 5, 6, 8, 9, 10, 12, 15, 16, 18, 24] {
+        let limits: Vec<u64> = (1..=13).map(|degree| coefficient_limit(k as u64, degree)).collect();
+        let inside = all_lists(&limits);
+        for f1 in 0..k {
+            for f2 in 0..k {
+                let triple = t(k, f1, f2);
+                if triple.acceptance() != DONE {
+                    continue;
+                }
+                let answer = inverse(triple);
+                let serving: Vec<&Vec<u32>> = inside.iter().filter(|list| undoes(triple, list, 0)).collect();
+                assert_eq!(serving, [&answer.places.to_vec()]);
+                let lower = all_lists(&vec![k as u64; answer.degree as usize - 1]);
+                assert!((0..k).all(|c| lower.iter().all(|list| !undoes(triple, list, c))));
+            }
+        }
+    }
+}
