@@ -87,20 +87,23 @@ clash-part t m s w e ek big pos co ew = go (eq-zero-or-pos (t .f2))
     go (inl z) = absurd (omega (arith, co m (dvd-refl m) (subst (λ (n : ℕ). m ∣ n) (sym z) (dvd-zero m))))
     go (inr p) = with-unit (unit-of m (t .f2) (omega arith) p co)
       where
-        with-unit : Unit-of m (t .f2) → Clash t
-        with-unit u =
-            let uw : u .x * m * w ≡ (1 + u .y * t .f2) * w = ap (λ (n : ℕ). n * w) (u .over) in
-            let dm : m ∣ t .f1 + t .f2 * (2 * (u .y * w) + s) =
-            dvd-add-iff-left m {m = t .f1 + t .f2 * (2 * (u .y * w) + s)} {n = m * e} (dvd-mul-right m e) .1
-            (dvd-make m (2 * (u .x * w)) (omega arith)) in
-            let (c, ec) = quotient m dm in
+        slope-divided : (x y : ℕ) → x * m ≡ 1 + y * t .f2 → m ∣ slope t (y * w) s
+        slope-divided x y over =
+            let xw : x * m * w ≡ (1 + y * t .f2) * w = ap (λ (n : ℕ). n * w) over in
+            dvd-add-iff-left m {m = slope t (y * w) s} {n = m * e} (dvd-mul-right m e) .1 (dvd-make m (2 * (x * w)) (omega arith))
+
+        from : (x : ℕ) → (c : ℕ) × (slope t x s ≡ m * c) → Clash t
+        from x (c, ec) =
             record {
-              x = u .y * w;
+              x = x;
               d = s;
               some = pos;
               less = omega (arith, ek, mul-le-mul-right s big);
-              product = dvd-make (t .k) c (scaled s m c _ ec ∙ ap (λ (n : ℕ). n * c) (sym ek));
+              product = dvd-make (t .k) c (scaled s m c (slope t x s) ec ∙ ap (λ (n : ℕ). n * c) (sym ek));
             }
+
+        with-unit : Unit-of m (t .f2) → Clash t
+        with-unit u = from (u .y * w) (quotient m (slope-divided (u .x) (u .y) (u .over)))
 
 -- ---- parity
 

@@ -26,7 +26,8 @@ returns-2 c =
     refuse-later (c .refused2 .ensures .0) s (inl (refl, omega arith)) (omega arith) (c .refused2 .ensures .1)
 
 place-requires : tie.Need-place-requires
-place-requires c κs = (accepted (c .before .before .accept .ensures) (omega arith) .range, omega arith)
+place-requires c κs =
+    let s = accepted (c .before .before .accept .ensures) (omega arith) in (s .range, omega (arith, s .range))
 
 cast-t10 : tie.Need-cast-t10
 cast-t10 c = search needs
