@@ -1,13 +1,18 @@
 -- No second answer fits.
 use mathlib.Core.Path.{_≡_, sym, _∙_}
-use mathlib.Core.List.{[]}
+use mathlib.Core.List.{List, []}
 use Prim.Native.Nat.{ℕ}
 use Rattle.numbers.proofs.Congruences.{reciprocal-one}
+use Rattle.triples.proofs.Rows.{listed-one}
 use Rattle.triples.specs.declared.Triple.{Triple}
 use Rattle.triples.specs.Shuffles.{oddForm}
 use Rattle.qpp.specs.declared.shuffles.Value.{Value}
+use Rattle.qpp.specs.declared.walker.Walker.{Walker}
+use Rattle.qpp.specs.declared.walker.Start.{Start}
+use Rattle.qpp.specs.declared.walker.Step.{Step}
 use Rattle.qpp.specs.Refusals.{shuffle-then}
-use Rattle.qpp.specs.Promises.{Acceptance, Address, ReciprocalOf}
+use Rattle.qpp.specs.Walking.{Started, Stepped}
+use Rattle.qpp.specs.Promises.{Acceptance, Address, ReciprocalOf, AddressList}
 use Rattle.qpp.proofs.Answers.{first-one, answer-one}
 
 pub acceptance-one : (t : Triple) {n m : ℕ} → Acceptance t n → Acceptance t m → n ≡ m
@@ -22,3 +27,18 @@ address-one a b = value-same (answer-one (λ p q. p ∙ sym q) (λ p q. p ∙ sy
 pub reciprocal-of-one : {t : Triple} {r s : Value} → ReciprocalOf t r → ReciprocalOf t s → r ≡ s
 reciprocal-of-one {t} {r} {s} a b =
     value-same (answer-one (reciprocal-one (t .k) (oddForm t .f1) (r .value) (s .value)) (λ p q. p ∙ sym q) a b)
+
+pub started-one : {t : Triple} {r s : Start} → Started t r → Started t s → r ≡ s
+started-one {t} {r} {s} a b =
+    let e = answer-one (λ p q. p ∙ sym q) (λ p q. p ∙ sym q) a b in λ i. record { number = e .0 i; walker = e .1 i }
+
+pub stepped-one : {w : Walker} {r s : Step} → Stepped w r → Stepped w s → r ≡ s
+stepped-one {w} {r} {s} a b =
+    let e = answer-one both both a b in λ i. record { number = e .0 i; address = e .1 .0 i; walker = e .1 .1 i }
+  where
+    both : {a : ℕ} {v : Walker} → (r .address ≡ a) × (r .walker ≡ v) → (s .address ≡ a) × (s .walker ≡ v)
+        → (r .address ≡ s .address) × (r .walker ≡ s .walker)
+    both p q = (p .0 ∙ sym (q .0), p .1 ∙ sym (q .1))
+
+pub address-list-one : {t : Triple} {before : List ℕ} {n m : ℕ} {a b : List ℕ} → AddressList t before n a → AddressList t before m b → (n ≡ m) × (a ≡ b)
+address-list-one = answer-one listed-one (λ p q. p ∙ sym q)

@@ -8,7 +8,7 @@ use native.Mathlib.Omega.{arith}
 use Rattle.triples.specs.declared.Triple.{Triple}
 use Rattle.triples.specs.Shuffles.{InRange, Permutes, Shuffle}
 use Rattle.qpp.proofs.Answers.{answered, refusing}
-use Rattle.qpp.specs.Refusals.{Test, First, Answer, shuffle-then, no-length, no-coefficient, no-shuffle}
+use Rattle.qpp.specs.Refusals.{Test, First, Answer, range-then, shuffle-then, no-length, no-coefficient, no-shuffle}
 
 -- "not two positions share a value" may be shown by its contrary's
 permutes-stable : (t : Triple) → ¬ (¬ Permutes t) → Permutes t
@@ -45,29 +45,48 @@ coefficient-right : {t : Triple} → InRange t → ¬ (no-coefficient t .applies
 coefficient-right r (inl h) = omega (arith, r .first)
 coefficient-right r (inr h) = omega (arith, r .second)
 
--- ---- the three tests, each as the code comes to it
+-- ---- the tests of the range
 
-pub refuse-length : {t : Triple} (more : List Test) → no-length t .applies → First (shuffle-then t more) 1
+pub refuse-length : {t : Triple} (more : List Test) → no-length t .applies → First (range-then t more) 1
 refuse-length more h = inl (refl, h)
 
-pub refuse-coefficient : {t : Triple} (more : List Test) → 2 ≤ t .k → t .k ≤ 8192 → no-coefficient t .applies → First (shuffle-then t more) 2
+pub refuse-coefficient : {t : Triple} (more : List Test) → 2 ≤ t .k → t .k ≤ 8192 → no-coefficient t .applies → First (range-then t more) 2
 refuse-coefficient {t} more low high h = inr (⊎-elim (λ p. omega arith) (λ p. omega arith), inl (refl, h))
 
+-- a triple in range comes to the tests that follow
+pub range-passes : {t : Triple} {n : ℕ} (more : List Test) → InRange t → First more n → First (range-then t more) n
+range-passes more r h = inr (length-right r, inr (coefficient-right r, h))
+
+-- 0 is given only to a triple in range
+pub ranged : {t : Triple} {n : ℕ} → First (range-then t []) n → n ≡ 0 → InRange t
+ranged (inl p) z = absurd (omega (arith, p .0))
+ranged (inr (p, inl q)) z = absurd (omega (arith, q .0))
+ranged {t} (inr (p, inr (q, e))) z = in-range t p q
+
+-- a refusal stays one, whatever tests follow
+pub range-stays : {t : Triple} {n : ℕ} (more : List Test) → First (range-then t []) n → n ≢ 0 → First (range-then t more) n
+range-stays more (inl p) ne = inl p
+range-stays more (inr (p, inl q)) ne = inr (p, inl q)
+range-stays more (inr (p, inr (q, e))) ne = absurd (ne e)
+
+-- ---- and of a shuffle
+
 pub refuse-shuffle : {t : Triple} (more : List Test) → InRange t → ¬ Permutes t → First (shuffle-then t more) 3
-refuse-shuffle more r h = inr (length-right r, inr (coefficient-right r, inl (refl, h)))
+refuse-shuffle {t} more r h = range-passes {t = t} (no-shuffle t ∷ more) r (inl (refl, h))
 
 -- a shuffle comes to the tests that follow
 pub shuffle-passes : {t : Triple} {n : ℕ} (more : List Test) → Shuffle t → First more n → First (shuffle-then t more) n
-shuffle-passes more s h = inr (length-right (s .range), inr (coefficient-right (s .range), inr ((λ no. no (s .permutes)), h)))
+shuffle-passes {t} more s h = range-passes {t = t} (no-shuffle t ∷ more) (s .range) (inr ((λ not. not (s .permutes)), h))
 
--- ---- what the three tests say
+-- 0 is given only to a shuffle, whatever tests follow
+pub accepted-then : {t : Triple} {n : ℕ} (more : List Test) → First (shuffle-then t more) n → n ≡ 0 → Shuffle t
+accepted-then more (inl p) z = absurd (omega (arith, p .0))
+accepted-then more (inr (p, inl q)) z = absurd (omega (arith, q .0))
+accepted-then more (inr (p, inr (q, inl r))) z = absurd (omega (arith, r .0))
+accepted-then {t} more (inr (p, inr (q, inr (r, e)))) z = record { range = in-range t p q; permutes = permutes-stable t r }
 
--- 0 is given only to a shuffle
 pub accepted : {t : Triple} {n : ℕ} → First (shuffle-then t []) n → n ≡ 0 → Shuffle t
-accepted (inl p) z = absurd (omega (arith, p .0))
-accepted (inr (p, inl q)) z = absurd (omega (arith, q .0))
-accepted (inr (p, inr (q, inl r))) z = absurd (omega (arith, r .0))
-accepted {t} (inr (p, inr (q, inr (r, e)))) z = record { range = in-range t p q; permutes = permutes-stable t r }
+accepted {t} = accepted-then {t = t} []
 
 -- a refusal stays one, whatever tests follow
 stays-refused : {t : Triple} {n : ℕ} (more : List Test) → First (shuffle-then t []) n → n ≢ 0 → First (shuffle-then t more) n
@@ -91,3 +110,16 @@ refuse-later {t} {more} e s first ne nothing = refusing e (shuffle-passes more s
 -- no test refuses
 pub answer-all : {t : Triple} {more : List Test} {Done Nothing : Type 0} → Shuffle t → First more 0 → Done → Answer (shuffle-then t more) 0 Done Nothing
 answer-all {t} {more} s first done = answered (shuffle-passes more s first) done
+
+-- ---- and of one that asks for the range alone
+
+pub refuse-range : {t : Triple} {more : List Test} {n m : ℕ} {Done Nothing : Type 0} → m ≡ n → First (range-then t []) n → n ≢ 0 → Nothing
+    → Answer (range-then t more) m Done Nothing
+refuse-range {t} {more} e first ne nothing = refusing e (range-stays more first ne) ne nothing
+
+pub refuse-in-range : {t : Triple} {more : List Test} {n m : ℕ} {Done Nothing : Type 0} → m ≡ n → InRange t → First more n → n ≢ 0 → Nothing
+    → Answer (range-then t more) m Done Nothing
+refuse-in-range {t} {more} e r first ne nothing = refusing e (range-passes more r first) ne nothing
+
+pub answer-in-range : {t : Triple} {more : List Test} {Done Nothing : Type 0} → InRange t → First more 0 → Done → Answer (range-then t more) 0 Done Nothing
+answer-in-range {t} {more} r first done = answered (range-passes more r first) done

@@ -2,5 +2,6 @@
 pub mod Answers
 pub mod Judging
 pub mod Determined
+pub mod Strides
 pub mod Trying
 pub mod CasesHold

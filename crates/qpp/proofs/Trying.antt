@@ -11,7 +11,7 @@ use lib.ListN.{getD}
 use borrow.Author.Tests.{eq-eqb, eqb-true, eqb-false, leb-true, leb-false, ltb-true, ltb-false}
 use Rattle.triples.specs.declared.Triple.{Triple}
 use Rattle.triples.specs.Shuffles.{f, InRange, Permutes, Shuffle}
-use Rattle.qpp.specs.Refusals.{First, shuffle-then}
+use Rattle.qpp.specs.Refusals.{First, shuffle-then, no-shuffle}
 use Rattle.qpp.proofs.Judging.{refuse-length, refuse-coefficient, refuse-shuffle, shuffle-passes}
 
 -- does the test pass at every number below n?
@@ -80,12 +80,12 @@ picked P false then other = other refl
 pub judge-first : (t : Triple) → First (shuffle-then t []) (judge t)
 judge-first t =
     let P : ℕ → Type 0 = λ n. First (shuffle-then t []) n in
-    picked P (ltb (t .k) 2) (λ e. refuse-length {t = t} [] (inl (ltb-true _ _ e))) λ e₁.
-    picked P (ltb 8192 (t .k)) (λ e. refuse-length {t = t} [] (inr (ltb-true _ _ e))) λ e₂.
+    picked P (ltb (t .k) 2) (λ e. refuse-length {t = t} (no-shuffle t ∷ []) (inl (ltb-true _ _ e))) λ e₁.
+    picked P (ltb 8192 (t .k)) (λ e. refuse-length {t = t} (no-shuffle t ∷ []) (inr (ltb-true _ _ e))) λ e₂.
     let low : 2 ≤ t .k = ltb-false _ _ e₁ in
     let high : t .k ≤ 8192 = ltb-false _ _ e₂ in
-    picked P (leb (t .k) (t .f1)) (λ e. refuse-coefficient {t = t} [] low high (inl (leb-true _ _ e))) λ e₃.
-    picked P (leb (t .k) (t .f2)) (λ e. refuse-coefficient {t = t} [] low high (inr (leb-true _ _ e))) λ e₄.
+    picked P (leb (t .k) (t .f1)) (λ e. refuse-coefficient {t = t} (no-shuffle t ∷ []) low high (inl (leb-true _ _ e))) λ e₃.
+    picked P (leb (t .k) (t .f2)) (λ e. refuse-coefficient {t = t} (no-shuffle t ∷ []) low high (inr (leb-true _ _ e))) λ e₄.
     let range : InRange t = record { low = low; high = high; first = leb-false _ _ e₃; second = leb-false _ _ e₄ } in
     picked P (tried t) (λ e. shuffle-passes {t = t} [] (record { range = range; permutes = tried-true t e }) refl)
     (λ e. refuse-shuffle {t = t} [] range (tried-false t e))

@@ -1,3 +1,4 @@
 pub mod Refusals
 pub mod Promises
+pub mod Walking
 pub mod Cases

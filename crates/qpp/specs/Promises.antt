@@ -2,11 +2,12 @@
 use mathlib.Core.Path.{_≡_}
 use mathlib.Core.List.{List, [], _∷_}
 use Prim.Native.Nat.{ℕ}
+use lib.ListN.{length}
 use Rattle.numbers.specs.Congruence.{Reciprocal}
 use Rattle.triples.specs.declared.Triple.{Triple}
-use Rattle.triples.specs.Shuffles.{f, oddForm}
+use Rattle.triples.specs.Shuffles.{f, oddForm, Listed}
 use Rattle.qpp.specs.declared.shuffles.Value.{Value}
-use Rattle.qpp.specs.Refusals.{Test, First, Answer, shuffle-then, no-position}
+use Rattle.qpp.specs.Refusals.{Test, First, Answer, shuffle-then, no-position, no-list}
 
 -- Acceptance: the number.
 abbrev pub Acceptance : Triple → ℕ → Type 0
@@ -19,3 +20,8 @@ Address t x r = Answer (shuffle-then t (no-position t x ∷ [])) (r .number) (r 
 -- The reciprocal of f1, with f1 of the odd form.
 abbrev pub ReciprocalOf : Triple → Value → Type 0
 ReciprocalOf t r = Answer (shuffle-then t []) (r .number) (Reciprocal (t .k) (oddForm t .f1) (r .value)) (r .value ≡ 0)
+
+-- The address list: the number, and the list after the call.
+abbrev pub AddressList : Triple → List ℕ → ℕ → List ℕ → Type 0
+AddressList t before number after =
+    Answer (shuffle-then t (no-list (t .k) (length before) ∷ [])) number (Listed t before after) (after ≡ before)

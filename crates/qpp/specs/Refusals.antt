@@ -34,9 +34,13 @@ no-position t x = record { number = 6; applies = t .k ≤ x }
 abbrev pub no-list : ℕ → ℕ → Test
 no-list needed size = record { number = 7; applies = size < needed }
 
+-- The tests of the range, in their order, and then more.
+abbrev pub range-then : Triple → List Test → List Test
+range-then t more = no-length t ∷ no-coefficient t ∷ more
+
 -- The tests that every call on a shuffle begins with, in their order, and then those of its own.
 abbrev pub shuffle-then : Triple → List Test → List Test
-shuffle-then t more = no-length t ∷ no-coefficient t ∷ no-shuffle t ∷ more
+shuffle-then t more = range-then t (no-shuffle t ∷ more)
 
 -- n is the number of the first test that applies, and 0 where none does.
 abbrev pub First : List Test → ℕ → Type 0

@@ -1,9 +1,15 @@
 // The interleaver's calls. None trusts its caller: each tests the numbers that it is given, and answers or
 // refuses by a number of the table.
+mod lists;
 mod refusals;
 mod shuffles;
+mod walker;
 
+pub use lists::addresses;
 pub use shuffles::Value;
 pub use shuffles::accept;
 pub use shuffles::address;
 pub use shuffles::reciprocal;
+pub use walker::Start;
+pub use walker::Step;
+pub use walker::Walker;

@@ -7,6 +7,8 @@ use crate::refusals::NO_SHUFFLE;
 use triples::Triple;
 ghost use mathlib.Core.Path.{_≡_};
 ghost use Rattle.triples.specs.Shuffles.{triple};
+ghost use mathlib.Core.List.{[]};
+ghost use Rattle.qpp.specs.Refusals.{First, range-then};
 ghost use Rattle.qpp.specs.Promises.{Acceptance, Address, ReciprocalOf};
 
 const LONGEST: u32 = 8192;
@@ -23,9 +25,9 @@ fn refused(number: u32) -> Value
     Value { number, value: 0 }
 }
 
-// Is the triple a shuffle?
-pub fn accept(k: u32, f1: u32, f2: u32) -> u32
-    ensures { λ number. ⌜ Acceptance (triple k f1 f2) number ⌝ }
+// Are the numbers in range?
+pub fn range(k: u32, f1: u32, f2: u32) -> u32
+    ensures { λ number. ⌜ First (range-then (triple k f1 f2) []) number ⌝ }
 {
     if k < 2 {
         return NO_LENGTH;
@@ -38,6 +40,17 @@ pub fn accept(k: u32, f1: u32, f2: u32) -> u32
     }
     if f2 >= k {
         return NO_COEFFICIENT;
+    }
+    DONE
+}
+
+// Is the triple a shuffle?
+pub fn accept(k: u32, f1: u32, f2: u32) -> u32
+    ensures { λ number. ⌜ Acceptance (triple k f1 f2) number ⌝ }
+{
+    let number = range(k, f1, f2);
+    if number != DONE {
+        return number;
     }
     if triples::permutes(Triple { k, f1, f2 }) {
         return DONE;

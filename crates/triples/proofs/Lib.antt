@@ -2,3 +2,4 @@
 pub mod Values
 pub mod Forms
 pub mod Rule
+pub mod Rows

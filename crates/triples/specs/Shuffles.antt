@@ -2,7 +2,9 @@
 use mathlib.Core.Path.{_≡_}
 use mathlib.Core.Bool.{Bool, true, false, cond}
 use Prim.Native.Nat.{ℕ, _+_, _*_, _/_, _%_, _≤_, _<_}
+use mathlib.Core.List.{List}
 use lib.Dec.{eqb}
+use lib.ListN.{length, getD}
 use Rattle.triples.specs.declared.Triple.{Triple}
 
 -- The triple of three numbers.
@@ -37,3 +39,9 @@ oddForm t =
     (triple (t .k) ((t .f1 + t .k / 2) % t .k) ((t .f2 + t .k / 2) % t .k))
     t)
     t
+
+-- The list after holds f(0) to f(K-1), and past K what it held before.
+pub record Listed (t : Triple) (before after : List ℕ) : Type 0 where
+  pub size : length after ≡ length before
+  pub addresses : (x : ℕ) → x < t .k → getD after x 0 ≡ f t x
+  pub rest : (x : ℕ) → t .k ≤ x → getD after x 0 ≡ getD before x 0

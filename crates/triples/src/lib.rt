@@ -1,4 +1,7 @@
 // What a triple of numbers means, and which triples are shuffles.
+mod listing;
+
+pub use listing::fill;
 ghost use mathlib.Core.Path.{_≡_};
 ghost use Prim.Native.Nat.{_<_};
 ghost use Rattle.numbers.specs.Divisors.{Decides};

@@ -1,35 +1,38 @@
--- `accept` meets its contract: each return is a row of the table.
+-- `accept` meets its contract.
 use mathlib.Core.Path.{refl}
-use mathlib.Core.Logic.{inl, inr}
-use mathlib.Core.List.{[]}
+use mathlib.Core.List.{[], _∷_}
 use native.Mathlib.Omega.{arith}
-use Rattle.qpp.proofs.Judging.{refuse-length, refuse-coefficient, refuse-shuffle, shuffle-passes}
 use borrow.Author.Needs.{needs}
+use Rattle.triples.specs.Shuffles.{triple}
+use Rattle.qpp.specs.Refusals.{no-shuffle}
+use Rattle.qpp.proofs.Judging.{ranged, range-stays, refuse-shuffle, shuffle-passes}
 use Rattle.qpp.proofs.shuffles.accept.Statement.{statement}
 use Rattle.qpp.proofs.shuffles.accept.Tie as tie
 
+range-requires : tie.Need-range-requires
+range-requires c κs = search needs
+
 returns : tie.Need-returns
-returns c = refuse-length [] (inl (omega arith))
-
-returns-2 : tie.Need-returns-2
-returns-2 c = refuse-length [] (inr (omega arith))
-
-returns-3 : tie.Need-returns-3
-returns-3 c = refuse-coefficient [] (omega arith) (omega arith) (inl (omega arith))
-
-returns-4 : tie.Need-returns-4
-returns-4 c = refuse-coefficient [] (omega arith) (omega arith) (inr (omega arith))
+returns c =
+    let a = c .before .before .args in range-stays (no-shuffle (triple (a .k) (a .f1) (a .f2)) ∷ []) (c .before .range .ensures) (c .if1 .taken)
 
 permutes-requires : tie.Need-permutes-requires
-permutes-requires c κs = search needs
+permutes-requires c κs = ranged (c .before .range .ensures) (omega arith)
 
-returns-5 : tie.Need-returns-5
-returns-5 c = shuffle-passes [] (record { range = search needs; permutes = c .before .permutes .ensures .yes-only-if (c .if5 .taken) }) refl
+returns-2 : tie.Need-returns-2
+returns-2 c =
+    shuffle-passes []
+    (record {
+      range = ranged (c .before .before .before .range .ensures) (omega arith);
+      permutes = c .before .permutes .ensures .yes-only-if (c .if2 .taken);
+    })
+    refl
 
-returns-6 : tie.Need-returns-6
-returns-6 c = refuse-shuffle [] (search needs) (c .before .permutes .ensures .no-only-if (c .if5 .left))
+returns-3 : tie.Need-returns-3
+returns-3 c =
+    refuse-shuffle []
+    (ranged (c .before .before .before .range .ensures) (omega arith))
+    (c .before .permutes .ensures .no-only-if (c .if2 .left))
 
 pub accept-spec : {M : Type 1} → statement M
-accept-spec =
-    tie.close
-    (tie.spec returns returns-2 returns-3 returns-4 permutes-requires returns-5 returns-6)
+accept-spec = tie.close (tie.spec range-requires returns permutes-requires returns-2 returns-3)

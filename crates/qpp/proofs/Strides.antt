@@ -1,0 +1,65 @@
+-- From the start, step n hands out f(n mod K); and a walker, the address call and the address list agree at every position.
+use mathlib.Core.Path.{_≡_, refl, sym, ap, subst, _∙_}
+use mathlib.Core.Logic.{inr}
+use mathlib.Core.List.{List, [], _∷_}
+use Prim.Native.Nat.{ℕ, zero, suc, _+_, _%_, _<_}
+use native.Mathlib.Nat.{mod-lt, mod-add-mod, zero-mod}
+use native.Mathlib.Numerals.{add-one}
+use native.Mathlib.Omega.{arith}
+use lib.ListN.{length, getD}
+use Rattle.triples.specs.declared.Triple.{Triple}
+use Rattle.triples.specs.Shuffles.{f, InRange, Shuffle}
+use Rattle.qpp.specs.declared.walker.Walker.{Walker}
+use Rattle.qpp.specs.declared.walker.Start.{Start}
+use Rattle.qpp.specs.declared.walker.Step.{Step}
+use Rattle.qpp.specs.declared.shuffles.Value.{Value}
+use Rattle.qpp.specs.Promises.{Address, AddressList}
+use Rattle.qpp.specs.Refusals.{range-then, shuffle-then, no-position, no-list}
+use Rattle.qpp.specs.Walking.{walker, Started, Stepped, Walk}
+use Rattle.qpp.proofs.Answers.{first-one}
+use Rattle.qpp.proofs.Judging.{accepted, accepted-then, range-passes, shuffle-passes}
+
+-- what the step at a position hands out
+record Handed (t : Triple) (at : ℕ) (s : Step) : Type 0 where
+  number : s .number ≡ 0
+  address : s .address ≡ f t at
+  on : s .walker ≡ walker t ((at + 1) % t .k)
+
+handed : {t : Triple} {at : ℕ} {w : Walker} {s : Step} → InRange t → at < t .k → w ≡ walker t at → Stepped w s → Handed t at s
+handed {t} {at} {w} {s} range within e a = from (subst (λ (v : Walker). Stepped v s) e a)
+  where
+    from : Stepped (walker t at) s → Handed t at s
+    from a =
+        let z : s .number ≡ 0 =
+        first-one (range-then t (no-position t at ∷ [])) (a .first)
+        (range-passes {t = t} (no-position t at ∷ []) range (inr ((λ h. omega arith), refl))) in
+        record { number = z; address = a .done z .0; on = a .done z .1 }
+
+module _ {t : Triple} {start : Start} {steps : ℕ → Step} (started : Started t start) (done : start .number ≡ 0)
+    (walk : Walk (start .walker) steps) where
+  shuffle : Shuffle t
+  shuffle = accepted (started .first) done
+
+  positive : 0 < t .k
+  positive = omega (arith, shuffle .range .low)
+
+  stride : (n : ℕ) → Handed t (n % t .k) (steps n)
+  stride zero = handed (shuffle .range) (mod-lt 0 positive) (started .done done ∙ ap (λ (m : ℕ). walker t m) (sym (zero-mod (t .k)))) (walk .first)
+  stride (suc n) =
+      handed (shuffle .range) (mod-lt (suc n) positive)
+      (stride n .on ∙ ap (λ (m : ℕ). walker t m) (mod-add-mod n (t .k) 1 ∙ ap (λ (m : ℕ). m % t .k) (add-one n)))
+      (walk .next n)
+
+  pub walk-addresses : (n : ℕ) → (steps n .number ≡ 0) × (steps n .address ≡ f t (n % t .k))
+  walk-addresses n = (stride n .number, stride n .address)
+
+-- at a position below K of a listed shuffle, all three hand out the same address
+pub three-agree : {t : Triple} {x n : ℕ} {r : Value} {s : Step} {before after : List ℕ} → x < t .k → AddressList t before n after → n ≡ 0
+    → Address t x r → Stepped (walker t x) s → (r .value ≡ getD after x 0) × (s .address ≡ getD after x 0)
+three-agree {t} {x} {n} {r} {s} {before} {after} within list z called stepped =
+    let shuffle = accepted-then {t = t} (no-list (t .k) (length before) ∷ []) (list .first) z in
+    let right : r .number ≡ 0 =
+    first-one (shuffle-then t (no-position t x ∷ [])) (called .first)
+    (shuffle-passes {t = t} (no-position t x ∷ []) shuffle (inr ((λ h. omega arith), refl))) in
+    let here : getD after x 0 ≡ f t x = list .done z .addresses x within in
+    (called .done right ∙ sym here, handed (shuffle .range) within refl stepped .address ∙ sym here)

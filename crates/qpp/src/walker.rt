@@ -1,0 +1,108 @@
+// The walker over the addresses.
+use crate::refusals::DONE;
+use crate::refusals::NO_POSITION;
+use crate::shuffles::accept;
+use crate::shuffles::range;
+use triples::Triple;
+ghost use mathlib.Core.Path.{_≡_};
+ghost use Prim.Native.Nat.{_+_, _%_, _<_};
+ghost use Rattle.triples.specs.Shuffles.{triple};
+ghost use Rattle.qpp.specs.Walking.{nowhere, Started, Stepped};
+
+// A position of a triple. A walker made by hand may hold anything.
+pub struct Walker {
+    pub k: u32,
+    pub f1: u32,
+    pub f2: u32,
+    pub at: u32,
+}
+
+pub struct Start {
+    pub number: u32,
+    pub walker: Walker,
+}
+
+pub struct Step {
+    pub number: u32,
+    pub address: u32,
+    pub walker: Walker,
+}
+
+// What stands beside a refusal.
+fn zeros() -> Walker
+    ensures { λ r. ⌜ r ≡ nowhere ⌝ }
+{
+    Walker {
+        k: 0,
+        f1: 0,
+        f2: 0,
+        at: 0,
+    }
+}
+
+fn stopped(number: u32) -> Step
+    ensures { λ r. ⌜ (r .number ≡ number) × (r .address ≡ 0) × (r .walker ≡ nowhere) ⌝ }
+{
+    Step {
+        number,
+        address: 0,
+        walker: zeros(),
+    }
+}
+
+// The position that comes after `at`: 0 after the last.
+fn after(k: u32, at: u32) -> u32
+    requires { ⌜ at < k ⌝ }
+    ensures { λ r. ⌜ r ≡ (at + 1) % k ⌝ }
+{
+    let next = at + 1;
+    if next == k { 0 } else { next }
+}
+
+impl Walker {
+    // A walker at position 0, for a shuffle.
+    pub fn start(k: u32, f1: u32, f2: u32) -> Start
+        ensures { λ r. ⌜ Started (triple k f1 f2) r ⌝ }
+    {
+        let number = accept(k, f1, f2);
+        if number != DONE {
+            return Start {
+                number,
+                walker: zeros(),
+            };
+        }
+        Start {
+            number: DONE,
+            walker: Walker { k, f1, f2, at: 0 },
+        }
+    }
+
+    // The present address, and the walker moved on. Whether the triple permutes is not asked.
+    pub fn step(self) -> Step
+        ensures { λ r. ⌜ Stepped self r ⌝ }
+    {
+        let number = range(self.k, self.f1, self.f2);
+        if number != DONE {
+            return stopped(number);
+        }
+        if self.at >= self.k {
+            return stopped(NO_POSITION);
+        }
+        let t = Triple {
+            k: self.k,
+            f1: self.f1,
+            f2: self.f2,
+        };
+        let address = triples::place(t, self.at as usize);
+        Step {
+            number: DONE,
+            address: address as u32,
+            walker: Walker {
+                k: self.k,
+                f1: self.f1,
+                f2: self.f2,
+                at: after(self.k, self.at),
+            },
+        }
+    }
+}

@@ -1,0 +1,84 @@
+-- The addresses in a row, each from the one before.
+use mathlib.Core.Path.{_≡_, refl, sym, ap, ap₂, subst, _∙_}
+use mathlib.Core.Logic.{_≢_}
+use mathlib.Core.List.{List}
+use Prim.Native.Nat.{ℕ, _+_, _*_, _%_, _≤_, _<_}
+use native.Mathlib.Nat.{zero-mod}
+use native.Mathlib.Decide.{ℕ-discrete, decLt}
+use native.Mathlib.Omega.{arith}
+use lib.ListN.{length, getD, set, length-set}
+use lib.Seq.{getD-set-same, getD-set-other, ext-getD}
+use Rattle.numbers.specs.Congruence.{Cong}
+use Rattle.numbers.proofs.Congruences.{cong-eq, cong-sym, cong-same, cong-add, cong-mod, _⨾_}
+use Rattle.triples.specs.declared.Triple.{Triple}
+use Rattle.triples.specs.Shuffles.{f, Listed}
+
+-- what f gains from x to x + 1
+abbrev pub gain : Triple → ℕ → ℕ
+gain t x = t .f1 + t .f2 * (2 * x + 1)
+
+-- the places below x are written, the others are not; value and rise are those of x
+pub record Listing (t : Triple) (before list : List ℕ) (value rise x : ℕ) : Type 0 where
+  pub size : length list ≡ length before
+  pub written : (i : ℕ) → i < x → getD list i 0 ≡ f t i
+  pub rest : (i : ℕ) → x ≤ i → getD list i 0 ≡ getD before i 0
+  pub value-is : value ≡ f t x
+  pub rise-is : rise ≡ gain t x % t .k
+  pub value-lt : value < t .k
+  pub rise-lt : rise < t .k
+  pub within : x ≤ t .k
+
+pub listing-start : (t : Triple) {list : List ℕ} (rise : ℕ) → 0 < t .k → rise ≡ (t .f1 + t .f2) % t .k → rise < t .k → Listing t list list 0 rise 0
+listing-start t rise pos e l =
+    record {
+      size = refl;
+      written = λ i h. absurd (omega arith);
+      rest = λ i h. refl;
+      value-is = sym (zero-mod (t .k)) ∙ ap (λ (n : ℕ). n % t .k) (omega arith);
+      rise-is = e ∙ ap (λ (n : ℕ). n % t .k) (omega arith);
+      value-lt = pos;
+      rise-lt = l;
+      within = omega arith;
+    }
+
+-- sums of remainders are remainders of sums
+remainders : (k a b c : ℕ) → a + b ≡ c → (a % k + b % k) % k ≡ c % k
+remainders k a b c e = cong-same (cong-add (cong-sym (cong-mod k a)) (cong-sym (cong-mod k b)) ⨾ cong-eq e)
+
+pub listing-step : (t : Triple) {before list : List ℕ} {value rise x : ℕ} (twice value′ rise′ : ℕ) → Listing t before list value rise x → x < t .k → x < length list
+    → twice ≡ (t .f2 + t .f2) % t .k → value′ ≡ (value + rise) % t .k → value′ < t .k → rise′ ≡ (rise + twice) % t .k → rise′ < t .k
+    → Listing t before (set list x value) value′ rise′ (x + 1)
+listing-step t {before} {list} {value} {rise} {x} twice value′ rise′ s below room et ev lv er lr =
+    record {
+      size = length-set list x value ∙ s .size;
+      written = λ i h. written i h (ℕ-discrete i x);
+      rest = λ i h. getD-set-other list x i value 0 (λ e. omega arith) ∙ s .rest i (omega arith);
+      value-is =
+          ev ∙ ap₂ (λ (a b : ℕ). (a + b) % t .k) (s .value-is) (s .rise-is)
+          ∙ remainders (t .k) (t .f1 * x + t .f2 * (x * x)) (gain t x) (t .f1 * (x + 1) + t .f2 * ((x + 1) * (x + 1))) (omega arith);
+      rise-is = er ∙ ap₂ (λ (a b : ℕ). (a + b) % t .k) (s .rise-is) et ∙ remainders (t .k) (gain t x) (t .f2 + t .f2) (gain t (x + 1)) (omega arith);
+      value-lt = lv;
+      rise-lt = lr;
+      within = omega arith;
+    }
+  where
+    written : (i : ℕ) → i < x + 1 → Dec (i ≡ x) → getD (set list x value) i 0 ≡ f t i
+    written i h (yes e) =
+        ap (λ (n : ℕ). getD (set list x value) n 0) e ∙ getD-set-same list x value 0 room ∙ s .value-is ∙ ap (λ (n : ℕ). f t n) (sym e)
+    written i h (no e) = getD-set-other list x i value 0 e ∙ s .written i (omega arith)
+
+pub listing-end : {t : Triple} {before list : List ℕ} {value rise x : ℕ} → Listing t before list value rise x → t .k ≤ x → Listed t before list
+listing-end s h =
+    record {
+      size = s .size;
+      addresses = λ i l. s .written i (omega arith);
+      rest = λ i l. s .rest i (omega (arith, s .within));
+    }
+
+-- one list fits
+pub listed-one : {t : Triple} {before a b : List ℕ} → Listed t before a → Listed t before b → a ≡ b
+listed-one {t} {before} {a} {b} p q = ext-getD 0 a b (p .size ∙ sym (q .size)) (λ i l. at i (decLt i (t .k)))
+  where
+    at : (i : ℕ) → Dec (i < t .k) → getD a i 0 ≡ getD b i 0
+    at i (yes h) = p .addresses i h ∙ sym (q .addresses i h)
+    at i (no h) = p .rest i (omega arith) ∙ sym (q .rest i (omega arith))
