@@ -2,7 +2,7 @@
 use mathlib.Core.Path.{_≡_, refl, sym, ap, _∙_, subst}
 use mathlib.Core.Logic.{_≢_, _⊎_, inl, inr}
 use Prim.Native.Nat.{ℕ, zero, suc, _+_, _-_, _*_, _/_, _%_, _^_, _≤_, _<_, _∣_}
-use native.Mathlib.Nat.{dvd-refl, dvd-zero, dvd-trans, dvd-mod-iff, eq-one-of-dvd-one, one-dvd, mul-comm, mul-assoc, mul-dvd-mul, pow-suc, pow-zero, pos-of-dvd-of-pos, div-mul-cancel, mul-div-cancel', div-lt-self, mul-le-mul-right, mod-eq-of-lt, mod-eq-zero-of-dvd}
+use native.Mathlib.Nat.{dvd-refl, dvd-zero, dvd-trans, dvd-mod-iff, dvd-add-iff-left, dvd-mul-right-of-dvd, eq-one-of-dvd-one, one-dvd, mul-comm, mul-assoc, mul-dvd-mul, pow-suc, pow-zero, pos-of-dvd-of-pos, div-mul-cancel, mul-div-cancel', div-lt-self, mul-le-mul-right, mod-eq-of-lt, mod-eq-zero-of-dvd}
 use native.Mathlib.Decide.{ℕ-discrete}
 use native.Mathlib.Omega.{arith}
 use lib.Pow.{pow-add}
@@ -48,6 +48,19 @@ absorbed-power (suc n) k f pos le ab = go (gcd-of k f pos) (λ h. absorbed-power
           where
             mul-le : (a : ℕ) {b : ℕ} → 2 ≤ b → a * 2 ≤ a * b
             mul-le a {b} h = omega (arith, mul-le-mul-right a h)
+
+-- the other way round, at any exponent
+pub power-absorbed : (n k f : ℕ) → k ∣ f ^ n → Absorbed k f
+power-absorbed n k f h d p co = go n (dvd-trans d p h)
+  where
+    go : (n : ℕ) → d ∣ f ^ n → d ≡ 1
+    go zero q = eq-one-of-dvd-one (subst (λ (m : ℕ). d ∣ m) (pow-zero f) q)
+    go (suc n) q = go n (euclid d f (f ^ n) co (subst (λ (m : ℕ). d ∣ m) (pow-suc f n ∙ mul-comm (f ^ n) f) q))
+
+-- where a shares nothing with k, and f absorbs k, no multiple of f added to a brings a common factor
+pub coprime-plus : {k a f : ℕ} → Coprime a k → Absorbed k f → (n : ℕ) → Coprime k (a + f * n)
+coprime-plus {k} {a} {f} co ab n d p q =
+    ab d p (λ e r s. co e (dvd-add-iff-left e {m = a} {n = f * n} (dvd-mul-right-of-dvd e s n) .1 (dvd-trans e r q)) (dvd-trans e r p))
 
 -- ---- by squares
 

@@ -2,7 +2,7 @@
 use mathlib.Core.Path.{_≡_, refl, sym, ap, ap₂, subst, _∙_}
 use mathlib.Core.Logic.{_≢_}
 use Prim.Native.Nat.{ℕ, zero, suc, _+_, _*_, _-_, _/_, _%_, _^_, _≤_, _<_, _∣_}
-use native.Mathlib.Nat.{mod-add-div', mod-lt, add-mul-mod-self-right, mod-eq-of-lt, pow-zero, pow-suc, dvd-of-mod-eq-zero, mod-eq-zero-of-dvd, mul-one, dvd-mod-iff, dvd-refl, dvd-zero}
+use native.Mathlib.Nat.{mod-add-div', mod-lt, add-mul-mod-self-right, mod-eq-of-lt, pow-zero, pow-suc, dvd-of-mod-eq-zero, mod-eq-zero-of-dvd, mul-one, dvd-mod-iff, dvd-refl, dvd-zero, dvd-mul-left-of-dvd, eq-one-of-dvd-one}
 use native.Mathlib.Omega.{arith}
 use Rattle.numbers.specs.Divisors.{Coprime}
 use Rattle.numbers.specs.Congruence.{Cong, Reciprocal}
@@ -29,6 +29,9 @@ module _ {K : ℕ} where
         r = y * d .r + c .r * y′ + c .r * d .r * K;
         eq = omega (arith, ap₂ (λ (s t : ℕ). s * t) (c .eq) (d .eq));
       }
+
+  pub cong-times : (c : ℕ) {x y : ℕ} → Cong K x y → Cong K (c * x) (c * y)
+  cong-times c d = cong-mul (cong-eq {x = c} refl) d
 
   pub cong-pow : {x y : ℕ} (n : ℕ) → Cong K x y → Cong K (x ^ n) (y ^ n)
   cong-pow {x} {y} zero c = cong-eq (pow-zero x ∙ sym (pow-zero y))
@@ -80,6 +83,11 @@ reciprocal-one k a r s p q = cong-small (alone r s p q ⨾ cong-eq (omega arith)
     alone : (u v : ℕ) → Reciprocal k a u → Reciprocal k a v → Cong k u (u * (v * a))
     alone u v hu hv =
         cong-eq (sym (mul-one u)) ⨾ cong-mul {x = u} (cong-eq refl) (cong-eq (sym (hv .product)) ⨾ cong-sym (cong-mod k (v * a)))
+
+-- what has a reciprocal shares nothing with k
+pub reciprocal-coprime : {k a r : ℕ} → Reciprocal k a r → Coprime a k
+reciprocal-coprime {k} {a} {r} h d p q =
+    eq-one-of-dvd-one (subst (λ (n : ℕ). d ∣ n) (h .product) (dvd-mod-iff d q .1 (dvd-mul-left-of-dvd d p r)))
 
 -- ---- Euclid's algorithm with multipliers
 

@@ -1,8 +1,8 @@
 -- Divisors, Euclid's algorithm and Bezout's equation.
-use mathlib.Core.Path.{_≡_, refl, sym, ap, _∙_, subst}
-use mathlib.Core.Logic.{_≢_, _⊎_, inl, inr, ⊎-elim}
+use mathlib.Core.Path.{_≡_, refl, sym, ap, _∙_, subst, subst₂}
+use mathlib.Core.Logic.{_≢_, _⊎_, inl, inr, ⊎-elim, _↔_}
 use Prim.Native.Nat.{ℕ, zero, suc, _+_, _-_, _*_, _/_, _%_, _≤_, _<_, _∣_}
-use native.Mathlib.Nat.{dvd-refl, dvd-zero, dvd-trans, dvd-antisymm, dvd-mod-iff, dvd-mul-left, dvd-mul-right, dvd-mul-left-of-dvd, dvd-mul-right-of-dvd, dvd-add, dvd-add-iff-left, dvd-add-iff-right, mul-div-cancel', eq-zero-of-zero-dvd, eq-zero-or-pos, one-dvd, mul-comm, mul-assoc, mul-add, add-mul, eq-one-of-dvd-one, add-mul-mod-self-right, mod-eq-of-lt, pos-of-dvd-of-pos, div-mul-cancel, div-lt-self}
+use native.Mathlib.Nat.{dvd-refl, dvd-zero, dvd-trans, dvd-antisymm, dvd-mod-iff, dvd-mul-left, dvd-mul-right, dvd-mul-left-of-dvd, dvd-mul-right-of-dvd, dvd-add, dvd-add-iff-left, dvd-add-iff-right, dvd-of-mul-dvd-mul-right, mul-dvd-mul, mul-dvd-mul-left, mul-dvd-mul-right, mul-div-cancel', eq-zero-of-zero-dvd, eq-zero-or-pos, one-dvd, mul-comm, mul-assoc, mul-add, add-mul, eq-one-of-dvd-one, add-mul-mod-self-right, mod-eq-of-lt, pos-of-dvd-of-pos, div-mul-cancel, div-lt-self}
 use native.Mathlib.Decide.{decLt, ℕ-discrete}
 use native.Mathlib.Omega.{arith}
 use Rattle.numbers.specs.Divisors.{IsGcd, Coprime, Absorbed}
@@ -150,3 +150,52 @@ gcd-of a b p = go (eq-zero-or-pos b)
     go : (b ≡ 0) ⊎ (0 < b) → (g : ℕ) × IsGcd a b g
     go (inl z) = (a, gcd-end a b z)
     go (inr q) = let r = bezout a b p q in (r .g, bezout-gcd r)
+
+-- ---- two numbers and their greatest common divisor
+
+-- divided by it, they share no factor
+pub gcd-parts : (a b g m n : ℕ) → 0 < g → IsGcd a b g → m * g ≡ a → n * g ≡ b → Coprime m n
+gcd-parts a b g m n pos is ea eb d p q =
+    eq-one-of-dvd-one
+    (dvd-of-mul-dvd-mul-right {k = g} d {n = 1} pos
+    (subst (λ (t : ℕ). d * g ∣ t) (omega arith)
+    (is .greatest (d * g) (subst (λ (t : ℕ). d * g ∣ t) ea (mul-dvd-mul-right d p g)) (subst (λ (t : ℕ). d * g ∣ t) eb (mul-dvd-mul-right d q g)))))
+
+-- multiplied by c, so is it
+pub gcd-times : (c a b g : ℕ) → 0 < a → 0 < b → IsGcd a b g → IsGcd (c * a) (c * b) (c * g)
+gcd-times c a b g p q is =
+    record {
+      left = mul-dvd-mul-left g c (is .left);
+      right = mul-dvd-mul-left g c (is .right);
+      greatest =
+          λ d h k. dvd-add-iff-left d {m = c * g} {n = r .y * (c * b)} (dvd-mul-left-of-dvd d k (r .y)) .1
+          (subst (λ (t : ℕ). d ∣ t) (spread (r .x) (r .y) (r .over ∙ ap (λ (t : ℕ). t + r .y * b) same)) (dvd-mul-left-of-dvd d h (r .x)));
+    }
+  where
+    r : Bezout a b
+    r = bezout a b p q
+
+    same : r .g ≡ g
+    same = gcd-unique a b (r .g) g (bezout-gcd r) is
+
+    spread : (x y : ℕ) → x * a ≡ g + y * b → x * (c * a) ≡ c * g + y * (c * b)
+    spread x y e = omega (arith, ap (λ (t : ℕ). c * t) e)
+
+-- a divided by it divides exactly the x for which a divides b·x
+pub gcd-exact : (a b g m x : ℕ) → 0 < a → IsGcd a b g → m * g ≡ a → (a ∣ b * x) ↔ (m ∣ x)
+gcd-exact a b g m x pos is e = (λ h. euclid m n x (gcd-parts a b g m n (parts .1) is e eb) (cancel h), expand)
+  where
+    parts : (0 < m) × (0 < g)
+    parts = factors-pos a m g pos (sym e)
+
+    n : ℕ
+    n = b / g
+
+    eb : n * g ≡ b
+    eb = div-mul-cancel g (is .right)
+
+    cancel : a ∣ b * x → m ∣ n * x
+    cancel h = dvd-of-mul-dvd-mul-right {k = g} m {n = n * x} (parts .1) (subst₂ (λ (s t : ℕ). s ∣ t) (sym e) (omega (arith, ap (λ (t : ℕ). t * x) eb)) h)
+
+    expand : m ∣ x → a ∣ b * x
+    expand h = subst₂ (λ (s t : ℕ). s ∣ t) (mul-comm g m ∙ e) refl (mul-dvd-mul g m (is .right) h)

@@ -24,4 +24,4 @@ ReciprocalOf t r = Answer (shuffle-then t []) (r .number) (Reciprocal (t .k) (od
 -- The address list: the number, and the list after the call.
 abbrev pub AddressList : Triple → List ℕ → ℕ → List ℕ → Type 0
 AddressList t before number after =
-    Answer (shuffle-then t (no-list (t .k) (length before) ∷ [])) number (Listed t before after) (after ≡ before)
+    Answer (shuffle-then t (no-list (t .k) (length before) ∷ [])) number (Listed t (t .k) before after) (after ≡ before)

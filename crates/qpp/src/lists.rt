@@ -14,9 +14,10 @@ pub fn addresses(k: u32, f1: u32, f2: u32, list: &mut [u16]) -> u32
     if number != DONE {
         return number;
     }
-    if list.len() < k as usize {
+    let places = k as usize;
+    if list.len() < places {
         return NO_LIST;
     }
-    triples::fill(Triple { k, f1, f2 }, list);
+    triples::fill(Triple { k, f1, f2 }, places, list);
     DONE
 }

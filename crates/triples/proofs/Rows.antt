@@ -18,7 +18,7 @@ abbrev pub gain : Triple → ℕ → ℕ
 gain t x = t .f1 + t .f2 * (2 * x + 1)
 
 -- the places below x are written, the others are not; value and rise are those of x
-pub record Listing (t : Triple) (before list : List ℕ) (value rise x : ℕ) : Type 0 where
+pub record Listing (t : Triple) (n : ℕ) (before list : List ℕ) (value rise x : ℕ) : Type 0 where
   pub size : length list ≡ length before
   pub written : (i : ℕ) → i < x → getD list i 0 ≡ f t i
   pub rest : (i : ℕ) → x ≤ i → getD list i 0 ≡ getD before i 0
@@ -26,9 +26,9 @@ pub record Listing (t : Triple) (before list : List ℕ) (value rise x : ℕ) : 
   pub rise-is : rise ≡ gain t x % t .k
   pub value-lt : value < t .k
   pub rise-lt : rise < t .k
-  pub within : x ≤ t .k
+  pub within : x ≤ n
 
-pub listing-start : (t : Triple) {list : List ℕ} (rise : ℕ) → 0 < t .k → rise ≡ (t .f1 + t .f2) % t .k → rise < t .k → Listing t list list 0 rise 0
+pub listing-start : (t : Triple) {n : ℕ} {list : List ℕ} (rise : ℕ) → 0 < t .k → rise ≡ (t .f1 + t .f2) % t .k → rise < t .k → Listing t n list list 0 rise 0
 listing-start t rise pos e l =
     record {
       size = refl;
@@ -45,10 +45,10 @@ listing-start t rise pos e l =
 remainders : (k a b c : ℕ) → a + b ≡ c → (a % k + b % k) % k ≡ c % k
 remainders k a b c e = cong-same (cong-add (cong-sym (cong-mod k a)) (cong-sym (cong-mod k b)) ⨾ cong-eq e)
 
-pub listing-step : (t : Triple) {before list : List ℕ} {value rise x : ℕ} (twice value′ rise′ : ℕ) → Listing t before list value rise x → x < t .k → x < length list
+pub listing-step : (t : Triple) {n : ℕ} {before list : List ℕ} {value rise x : ℕ} (twice value′ rise′ : ℕ) → Listing t n before list value rise x → x < n → x < length list
     → twice ≡ (t .f2 + t .f2) % t .k → value′ ≡ (value + rise) % t .k → value′ < t .k → rise′ ≡ (rise + twice) % t .k → rise′ < t .k
-    → Listing t before (set list x value) value′ rise′ (x + 1)
-listing-step t {before} {list} {value} {rise} {x} twice value′ rise′ s below room et ev lv er lr =
+    → Listing t n before (set list x value) value′ rise′ (x + 1)
+listing-step t {n} {before} {list} {value} {rise} {x} twice value′ rise′ s below room et ev lv er lr =
     record {
       size = length-set list x value ∙ s .size;
       written = λ i h. written i h (ℕ-discrete i x);
@@ -67,7 +67,7 @@ listing-step t {before} {list} {value} {rise} {x} twice value′ rise′ s below
         ap (λ (n : ℕ). getD (set list x value) n 0) e ∙ getD-set-same list x value 0 room ∙ s .value-is ∙ ap (λ (n : ℕ). f t n) (sym e)
     written i h (no e) = getD-set-other list x i value 0 e ∙ s .written i (omega arith)
 
-pub listing-end : {t : Triple} {before list : List ℕ} {value rise x : ℕ} → Listing t before list value rise x → t .k ≤ x → Listed t before list
+pub listing-end : {t : Triple} {n : ℕ} {before list : List ℕ} {value rise x : ℕ} → Listing t n before list value rise x → n ≤ x → Listed t n before list
 listing-end s h =
     record {
       size = s .size;
@@ -76,9 +76,9 @@ listing-end s h =
     }
 
 -- one list fits
-pub listed-one : {t : Triple} {before a b : List ℕ} → Listed t before a → Listed t before b → a ≡ b
-listed-one {t} {before} {a} {b} p q = ext-getD 0 a b (p .size ∙ sym (q .size)) (λ i l. at i (decLt i (t .k)))
+pub listed-one : {t : Triple} {n : ℕ} {before a b : List ℕ} → Listed t n before a → Listed t n before b → a ≡ b
+listed-one {t} {n} {before} {a} {b} p q = ext-getD 0 a b (p .size ∙ sym (q .size)) (λ i l. at i (decLt i n))
   where
-    at : (i : ℕ) → Dec (i < t .k) → getD a i 0 ≡ getD b i 0
+    at : (i : ℕ) → Dec (i < n) → getD a i 0 ≡ getD b i 0
     at i (yes h) = p .addresses i h ∙ sym (q .addresses i h)
     at i (no h) = p .rest i (omega arith) ∙ sym (q .rest i (omega arith))

@@ -8,7 +8,7 @@ use native.Mathlib.Omega.{arith}
 use mathlib.Core.Bool.{Bool, true, false}
 use Rattle.numbers.specs.Divisors.{IsGcd, Coprime, Absorbed, Decides}
 use Rattle.numbers.proofs.Dividing.{factors-pos, dvd-make, quotient, euclid, unit-of, Unit-of, coprime-swap, gcd-one, gcd-of}
-use Rattle.numbers.proofs.Absorbing.{Rest, rest-of}
+use Rattle.numbers.proofs.Absorbing.{Rest, rest-of, coprime-plus}
 use Rattle.triples.specs.declared.Triple.{Triple}
 use Rattle.triples.specs.Shuffles.{f, InRange, Permutes, Shuffle, oddForm}
 use Rattle.triples.proofs.Values.{slope, Clash, clash, apart}
@@ -21,16 +21,11 @@ pub record Rule (t : Triple) : Type 0 where
 
 -- ---- enough: no difference below K is divided
 
-slope-coprime : {t : Triple} → Rule t → (n : ℕ) → Coprime (t .k) (t .f1 + t .f2 * n)
-slope-coprime {t} u n d p q =
-    u .absorbed d p
-    (λ e r s. u .coprime e (dvd-add-iff-left e {m = t .f1} {n = t .f2 * n} (dvd-mul-right-of-dvd e s n) .1 (dvd-trans e r q)) (dvd-trans e r p))
-
 pub rule-permutes : {t : Triple} → Rule t → Permutes t
 rule-permutes {t} u =
     apart t
     (λ x d pos lt h.
-    let dv : t .k ∣ d = euclid (t .k) (slope t x d) d (slope-coprime u (2 * x + d)) (subst (λ (n : ℕ). t .k ∣ n) (mul-comm d (slope t x d)) h) in
+    let dv : t .k ∣ d = euclid (t .k) (slope t x d) d (coprime-plus (u .coprime) (u .absorbed) (2 * x + d)) (subst (λ (n : ℕ). t .k ∣ n) (mul-comm d (slope t x d)) h) in
     omega (arith, le-of-dvd pos dv))
 
 -- ---- needed: where the rule fails, two positions are written down

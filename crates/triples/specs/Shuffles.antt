@@ -40,8 +40,8 @@ oddForm t =
     t)
     t
 
--- The list after holds f(0) to f(K-1), and past K what it held before.
-pub record Listed (t : Triple) (before after : List ℕ) : Type 0 where
+-- The list after holds f(0) to f(n-1), and from n on what it held before.
+pub record Listed (t : Triple) (n : ℕ) (before after : List ℕ) : Type 0 where
   pub size : length after ≡ length before
-  pub addresses : (x : ℕ) → x < t .k → getD after x 0 ≡ f t x
-  pub rest : (x : ℕ) → t .k ≤ x → getD after x 0 ≡ getD before x 0
+  pub addresses : (x : ℕ) → x < n → getD after x 0 ≡ f t x
+  pub rest : (x : ℕ) → n ≤ x → getD after x 0 ≡ getD before x 0

@@ -14,13 +14,12 @@ fn plus(a: u32, b: u32, k: u32) -> u32
     if sum < k { sum } else { sum - k }
 }
 
-// Writes f(0) to f(K-1), each from the one before, with no division: f rises by f1 + f2·(2x + 1), and that
-// rises by 2·f2.
-pub fn fill(t: Triple, list: &mut [u16])
-    requires { ⌜ InRange t × (t .k ≤ length (now list)) ⌝ }
-    ensures { λ _. ⌜ Listed t (now (list .entry)) (now (list .exit)) ⌝ }
+// Writes f(0) and the addresses after it to so many places, each from the one before, with no division: f
+// rises by f1 + f2·(2x + 1), and that rises by 2·f2.
+pub fn fill(t: Triple, places: usize, list: &mut [u16])
+    requires { ⌜ InRange t × (places ≤ length (now list)) ⌝ }
+    ensures { λ _. ⌜ Listed t places (now (list .entry)) (now (list .exit)) ⌝ }
 {
-    let places = t.k as usize;
     let twice = plus(t.f2, t.f2, t.k);
     let mut rise = plus(t.f1, t.f2, t.k);
     let mut value: u32 = 0;

@@ -8,13 +8,10 @@ use Rattle.triples.proofs.listing.fill.Statement.{statement}
 use Rattle.triples.proofs.listing.fill.Tie as tie
 
 abbrev Inv-loop : tie.InvT-loop
-Inv-loop t list₀ places twice rise₀ value₀ x₀ list rise value x = Listing t list₀ list value rise x
+Inv-loop t places list₀ twice rise₀ value₀ x₀ list rise value x = Listing t places list₀ list value rise x
 
 abbrev μ-loop : tie.MeasureT-loop
-μ-loop t list₀ places twice rise₀ value₀ x₀ list rise value x = places - x
-
-cast-places : tie.Need-cast-places Inv-loop μ-loop
-cast-places c = search needs
+μ-loop t places list₀ twice rise₀ value₀ x₀ list rise value x = places - x
 
 plus-requires : tie.Need-plus-requires Inv-loop μ-loop
 plus-requires c κs = search needs
@@ -64,7 +61,6 @@ fill-spec =
     (tie.spec
     Inv-loop
     μ-loop
-    cast-places
     plus-requires
     plus-requires-2
     loop-holds

@@ -1,0 +1,37 @@
+-- The almost regular (ARP) form. These are definitions.
+use mathlib.Core.Path.{_≡_}
+use mathlib.Core.List.{List}
+use Prim.Native.Nat.{ℕ, _+_, _*_, _%_, _≤_, _<_, _∣_}
+use lib.ListN.{length, getD}
+use Rattle.numbers.specs.Divisors.{Coprime}
+use Rattle.triples.specs.declared.Triple.{Triple}
+use Rattle.triples.specs.Shuffles.{f, oddForm}
+
+-- The shift of j: f2·j² mod K.
+abbrev pub shift : Triple → ℕ → ℕ
+shift t j = t .f2 * (j * j) % t .k
+
+-- f2·i² mod K repeats with period q.
+abbrev pub Repeats : Triple → ℕ → Type 0
+Repeats t q = (i : ℕ) → shift t (i + q) ≡ shift t i
+
+-- Q is the least divisor of K for which f2·i² mod K repeats with period Q.
+pub record Period (t : Triple) (q : ℕ) : Type 0 where
+  pub divides : q ∣ t .k
+  pub repeats : Repeats t q
+  pub least : (p : ℕ) → p ∣ t .k → Repeats t p → q ≤ p
+
+-- The list after holds S[0] to S[Q-1], and from Q on what it held before.
+pub record Shifts (t : Triple) (q : ℕ) (before after : List ℕ) : Type 0 where
+  pub size : length after ≡ length before
+  pub shifts : (j : ℕ) → j < q → getD after j 0 ≡ shift t j
+  pub rest : (j : ℕ) → q ≤ j → getD after j 0 ≡ getD before j 0
+
+-- With f1 and f2 of the odd form: P is f1, Q the period and S the shifts; P shares no factor with K; and position i goes to
+-- (P·i + S[i mod Q]) mod K.
+pub record Arp (t : Triple) (p q : ℕ) (before after : List ℕ) : Type 0 where
+  pub first : p ≡ oddForm t .f1
+  pub coprime : Coprime p (t .k)
+  pub period : Period (oddForm t) q
+  pub shifts : Shifts (oddForm t) q before after
+  pub addresses : (i : ℕ) → i < t .k → (p * i + getD after (i % q) 0) % t .k ≡ f t i

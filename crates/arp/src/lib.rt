@@ -1,0 +1,33 @@
+// The almost regular form of a shuffle. The triple is in its odd form.
+use triples::Triple;
+ghost use Prim.Native.Nat.{_≤_};
+ghost use lib.ListN.{length};
+ghost use Rattle.triples.specs.Shuffles.{InRange};
+ghost use Rattle.arp.specs.Arp.{Period, Shifts};
+
+// The period Q. The numbers q with K dividing 2·f2·q are the multiples of K/gcd(K, 2·f2); the least of them
+// serves unless K fails to divide f2·q², and then its double does.
+pub fn period(t: Triple) -> u32
+    requires { ⌜ InRange t ⌝ }
+    ensures { λ q. ⌜ Period t q × (q ≤ t .k) ⌝ }
+{
+    let q = t.k / numbers::gcd(t.k, 2 * t.f2);
+    let wide = q as u64;
+    if t.f2 as u64 * (wide * wide) % t.k as u64 == 0 {
+        return q;
+    }
+    2 * q
+}
+
+// Writes S[0] to S[Q-1]: the addresses of the triple without its first coefficient.
+pub fn shifts(t: Triple, q: u32, list: &mut [u16])
+    requires { ⌜ InRange t × (q ≤ length (now list)) ⌝ }
+    ensures { λ _. ⌜ Shifts t q (now (list .entry)) (now (list .exit)) ⌝ }
+{
+    let squares = Triple {
+        k: t.k,
+        f1: 0,
+        f2: t.f2,
+    };
+    triples::fill(squares, q as usize, list);
+}
