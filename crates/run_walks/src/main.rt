@@ -3,6 +3,7 @@ use qpp::Walker;
 ghost use Prim.Native.Nat.{_≤_};
 
 const LENGTHS: [u32; 7] = [0, 1, 2, 3, 8192, 8193, 4294967295];
+
 const EDGES: [u32; 5] = [0, 1, 2, 8191, 8192];
 
 fn begin(k: u32, f1: u32, f2: u32) {

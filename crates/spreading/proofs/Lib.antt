@@ -1,0 +1,2 @@
+-- `Distances`: laws of distance, and the search going up.
+pub mod Distances
