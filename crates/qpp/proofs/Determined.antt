@@ -3,16 +3,19 @@ use mathlib.Core.Path.{_≡_, sym, _∙_}
 use mathlib.Core.List.{List, []}
 use Prim.Native.Nat.{ℕ}
 use Rattle.numbers.proofs.Congruences.{reciprocal-one}
+use Rattle.arp.proofs.Shifting.{arp-one}
+use Rattle.spreading.proofs.Distances.{spread-one}
 use Rattle.triples.proofs.Rows.{listed-one}
 use Rattle.triples.specs.declared.Triple.{Triple}
 use Rattle.triples.specs.Shuffles.{oddForm}
 use Rattle.qpp.specs.declared.shuffles.Value.{Value}
+use Rattle.qpp.specs.declared.lists.ArpForm.{ArpForm}
 use Rattle.qpp.specs.declared.walker.Walker.{Walker}
 use Rattle.qpp.specs.declared.walker.Start.{Start}
 use Rattle.qpp.specs.declared.walker.Step.{Step}
 use Rattle.qpp.specs.Refusals.{shuffle-then}
 use Rattle.qpp.specs.Walking.{Started, Stepped}
-use Rattle.qpp.specs.Promises.{Acceptance, Address, ReciprocalOf, AddressList}
+use Rattle.qpp.specs.Promises.{Acceptance, Address, ReciprocalOf, AddressList, ArpOf, SpreadOf}
 use Rattle.qpp.proofs.Answers.{first-one, answer-one}
 
 pub acceptance-one : (t : Triple) {n m : ℕ} → Acceptance t n → Acceptance t m → n ≡ m
@@ -42,3 +45,13 @@ stepped-one {w} {r} {s} a b =
 
 pub address-list-one : {t : Triple} {before : List ℕ} {n m : ℕ} {a b : List ℕ} → AddressList t before n a → AddressList t before m b → (n ≡ m) × (a ≡ b)
 address-list-one = answer-one listed-one (λ p q. p ∙ sym q)
+
+pub arp-of-one : {t : Triple} {before : List ℕ} {r s : ArpForm} {a b : List ℕ} → ArpOf t before r a → ArpOf t before s b → (r ≡ s) × (a ≡ b)
+arp-of-one {t} {before} {r} {s} {a} {b} x y =
+    let e = answer-one arp-one nothing x y in ((λ i. record { number = e .0 i; p = e .1 .0 i; q = e .1 .1 i }), e .1 .2)
+  where
+    nothing : (r .p ≡ 0) × (r .q ≡ 0) × (a ≡ before) → (s .p ≡ 0) × (s .q ≡ 0) × (b ≡ before) → (r .p ≡ s .p) × (r .q ≡ s .q) × (a ≡ b)
+    nothing m n = (m .0 ∙ sym (n .0), m .1 ∙ sym (n .1), m .2 ∙ sym (n .2))
+
+pub spread-of-one : {t : Triple} {r s : Value} → SpreadOf t r → SpreadOf t s → r ≡ s
+spread-of-one a b = value-same (answer-one spread-one (λ p q. p ∙ sym q) a b)

@@ -57,7 +57,7 @@ module _ {t : Triple} {start : Start} {steps : ℕ → Step} (started : Started 
 pub three-agree : {t : Triple} {x n : ℕ} {r : Value} {s : Step} {before after : List ℕ} → x < t .k → AddressList t before n after → n ≡ 0
     → Address t x r → Stepped (walker t x) s → (r .value ≡ getD after x 0) × (s .address ≡ getD after x 0)
 three-agree {t} {x} {n} {r} {s} {before} {after} within list z called stepped =
-    let shuffle = accepted-then {t = t} (no-list (t .k) (length before) ∷ []) (list .first) z in
+    let shuffle = accepted-then {t = t} (no-list (λ n. n ≡ t .k) (length before) ∷ []) (list .first) z in
     let right : r .number ≡ 0 =
     first-one (shuffle-then t (no-position t x ∷ [])) (called .first)
     (shuffle-passes {t = t} (no-position t x ∷ []) shuffle (inr ((λ h. omega arith), refl))) in

@@ -6,7 +6,10 @@ use lib.ListN.{length}
 use Rattle.numbers.specs.Congruence.{Reciprocal}
 use Rattle.triples.specs.declared.Triple.{Triple}
 use Rattle.triples.specs.Shuffles.{f, oddForm, Listed}
+use Rattle.arp.specs.Arp.{Period, Arp}
+use Rattle.spreading.specs.Spread.{Spread}
 use Rattle.qpp.specs.declared.shuffles.Value.{Value}
+use Rattle.qpp.specs.declared.lists.ArpForm.{ArpForm}
 use Rattle.qpp.specs.Refusals.{Test, First, Answer, shuffle-then, no-position, no-list}
 
 -- Acceptance: the number.
@@ -24,4 +27,14 @@ ReciprocalOf t r = Answer (shuffle-then t []) (r .number) (Reciprocal (t .k) (od
 -- The address list: the number, and the list after the call.
 abbrev pub AddressList : Triple → List ℕ → ℕ → List ℕ → Type 0
 AddressList t before number after =
-    Answer (shuffle-then t (no-list (t .k) (length before) ∷ [])) number (Listed t (t .k) before after) (after ≡ before)
+    Answer (shuffle-then t (no-list (λ n. n ≡ t .k) (length before) ∷ [])) number (Listed t (t .k) before after) (after ≡ before)
+
+-- The ARP form: the number, P and Q, and the list after the call.
+abbrev pub ArpOf : Triple → List ℕ → ArpForm → List ℕ → Type 0
+ArpOf t before r after =
+    Answer (shuffle-then t (no-list (Period (oddForm t)) (length before) ∷ [])) (r .number) (Arp t (r .p) (r .q) before after)
+    ((r .p ≡ 0) × (r .q ≡ 0) × (after ≡ before))
+
+-- The spread.
+abbrev pub SpreadOf : Triple → Value → Type 0
+SpreadOf t r = Answer (shuffle-then t []) (r .number) (Spread (f t) (t .k) (r .value)) (r .value ≡ 0)

@@ -21,7 +21,7 @@ no-coefficient t = record { number = 2; applies = (t .k ≤ t .f1) ⊎ (t .k ≤
 abbrev pub no-shuffle : Triple → Test
 no-shuffle t = record { number = 3; applies = ¬ Permutes t }
 
--- `size` is the length of the lent block, scratch or list.
+-- `size` is the length of the lent block, scratch or list; `Needed n` says that n entries are needed.
 abbrev pub no-block : Triple → ℕ → Test
 no-block t size = record { number = 4; applies = size ≢ t .k }
 
@@ -31,8 +31,8 @@ no-scratch t size = record { number = 5; applies = size < (t .k + 7) / 8 }
 abbrev pub no-position : Triple → ℕ → Test
 no-position t x = record { number = 6; applies = t .k ≤ x }
 
-abbrev pub no-list : ℕ → ℕ → Test
-no-list needed size = record { number = 7; applies = size < needed }
+abbrev pub no-list : (ℕ → Type 0) → ℕ → Test
+no-list Needed size = record { number = 7; applies = (n : ℕ) × Needed n × (size < n) }
 
 -- The tests of the range, in their order, and then more.
 abbrev pub range-then : Triple → List Test → List Test

@@ -5,11 +5,14 @@ mod refusals;
 mod shuffles;
 mod walker;
 
+pub use lists::ArpForm;
 pub use lists::addresses;
+pub use lists::arp;
 pub use shuffles::Value;
 pub use shuffles::accept;
 pub use shuffles::address;
 pub use shuffles::reciprocal;
+pub use shuffles::spread;
 pub use walker::Start;
 pub use walker::Step;
 pub use walker::Walker;

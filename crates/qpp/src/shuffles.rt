@@ -9,7 +9,7 @@ ghost use mathlib.Core.Path.{_≡_};
 ghost use Rattle.triples.specs.Shuffles.{triple};
 ghost use mathlib.Core.List.{[]};
 ghost use Rattle.qpp.specs.Refusals.{First, range-then};
-ghost use Rattle.qpp.specs.Promises.{Acceptance, Address, ReciprocalOf};
+ghost use Rattle.qpp.specs.Promises.{Acceptance, Address, ReciprocalOf, SpreadOf};
 
 const LONGEST: u32 = 8192;
 
@@ -88,5 +88,19 @@ pub fn reciprocal(k: u32, f1: u32, f2: u32) -> Value
     Value {
         number: DONE,
         value: numbers::reciprocal(k, odd.f1),
+    }
+}
+
+// The spread.
+pub fn spread(k: u32, f1: u32, f2: u32) -> Value
+    ensures { λ r. ⌜ SpreadOf (triple k f1 f2) r ⌝ }
+{
+    let number = accept(k, f1, f2);
+    if number != DONE {
+        return refused(number);
+    }
+    Value {
+        number: DONE,
+        value: spreading::spread(Triple { k, f1, f2 }) as u32,
     }
 }

@@ -14,7 +14,7 @@ returns : tie.Need-returns
 returns c = refuse-triple refl (c .before .accept .ensures) (c .if1 .taken) refl
 
 returns-2 : tie.Need-returns-2
-returns-2 c = refuse-later refl (accepted (c .before .before .accept .ensures) (omega arith)) (inl (refl, omega arith)) (omega arith) refl
+returns-2 c = refuse-later refl (accepted (c .before .before .accept .ensures) (omega arith)) (inl (refl, (_, refl, omega arith))) (omega arith) refl
 
 fill-requires : tie.Need-fill-requires
 fill-requires c κs = (accepted (c .before .before .before .accept .ensures) (omega arith) .range, omega arith)
@@ -24,7 +24,7 @@ same-length c = search needs
 
 returns-3 : tie.Need-returns-3
 returns-3 c =
-    answer-all (accepted (c .before .before .before .before .before .before .accept .ensures) (omega arith)) (inr ((λ h. omega arith), refl)) (c .before .before .fill .ensures)
+    answer-all (accepted (c .before .before .before .before .before .before .accept .ensures) (omega arith)) (inr ((λ h. omega (arith, h .1, h .2)), refl)) (c .before .before .fill .ensures)
 
 pub addresses-spec : {M : Type 1} → statement M
 addresses-spec =
