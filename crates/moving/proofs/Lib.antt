@@ -1,0 +1,2 @@
+-- `Ends`: what a mover's return gives.
+pub mod Ends

@@ -1,0 +1,31 @@
+// Blocks moved in place by the map of a triple. A mover asks the map for a place, and knows nothing else of it.
+pub mod bytes; // blocks of unsigned bytes
+pub mod words; // blocks of signed 16-bit values
+
+ghost use Prim.Native.Nat.{_+_, _/_, _≤_, _<_};
+ghost use lib.ListN.{length};
+ghost use Rattle.permuting.specs.Marks.{Cleared, Stepped};
+ghost use Rattle.triples.specs.Shuffles.{f, InRange};
+use permuting::marks;
+use triples::Triple;
+
+// The bytes that hold a mark for each place, and no byte more: the rest of the scratch is the caller's.
+pub fn wipe(t: Triple, scratch: &mut [u8])
+    requires { ⌜ InRange t ⌝ }
+    requires { ⌜ (t .k + 7) / 8 ≤ length (now scratch) ⌝ }
+    ensures { λ _. ⌜ Cleared ((t .k + 7) / 8) (now (scratch .entry)) (now (scratch .exit)) ⌝ }
+{
+    let k = t.k as usize;
+    marks::clear(scratch, (k + 7) / 8);
+}
+
+// A place is marked as the walk leaves it, so that no later cycle begins there.
+pub fn step(t: Triple, i: usize, scratch: &mut [u8]) -> usize
+    requires { ⌜ InRange t ⌝ }
+    requires { ⌜ i < t .k ⌝ }
+    requires { ⌜ i / 8 < length (now scratch) ⌝ }
+    ensures { λ r. ⌜ Stepped (f t) i r (now (scratch .entry)) (now (scratch .exit)) ⌝ }
+{
+    marks::mark(scratch, i);
+    triples::place(t, i)
+}

@@ -1,0 +1,30 @@
+-- Laws of bytes that are kept past the first n, and of cleared ones.
+use mathlib.Core.Path.{_≡_, refl, sym, ap, _∙_}
+use mathlib.Core.Bool.{false}
+use mathlib.Core.List.{List, _++_}
+use Prim.Native.Nat.{ℕ, _*_, _≤_}
+use lib.ListN.{getD, drop, replicate, length-replicate}
+use lib.Seq.{drop-at}
+use Rattle.permuting.specs.Marks.{marks, Kept, Cleared}
+use Rattle.permuting.proofs.Marking.{none-marked}
+
+pub kept-none : (n : ℕ) (s : List ℕ) → Kept n s s
+kept-none n s = record { size = refl; tail = refl }
+
+pub kept-then : {n : ℕ} {s₀ s₁ s₂ : List ℕ} → Kept n s₀ s₁ → Kept n s₁ s₂ → Kept n s₀ s₂
+kept-then a b = record { size = b .size ∙ a .size; tail = b .tail ∙ a .tail }
+
+pub cleared-none-marked : {n : ℕ} {s₀ s₁ : List ℕ} (k : ℕ) → k ≤ n * 8 → Cleared n s₀ s₁ → (j : ℕ) → getD (marks k s₁) j false ≡ false
+cleared-none-marked {n} {s₀} k h c j = ap (λ (s : List ℕ). getD (marks k s) j false) (c .bytes) ∙ none-marked k n (drop n s₀) h j
+
+-- no second answer is cleared
+pub cleared-one : {n : ℕ} {s₀ s₁ s₂ : List ℕ} → Cleared n s₀ s₁ → Cleared n s₀ s₂ → s₁ ≡ s₂
+cleared-one a b = a .bytes ∙ sym (b .bytes)
+
+-- to clear, change the first n bytes alone, and clear again, is to clear
+pub cleared-again : {n : ℕ} {s₀ s₁ s₂ s₃ : List ℕ} → Cleared n s₀ s₁ → Kept n s₁ s₂ → Cleared n s₂ s₃ → Cleared n s₀ s₃
+cleared-again {n} {s₀} a h b = record {
+  bytes = b .bytes
+      ∙ ap (λ (s : List ℕ). replicate n 0 ++ s)
+      (h .tail ∙ ap (λ (s : List ℕ). drop n s) (a .bytes) ∙ drop-at (replicate n 0) (drop n s₀) n (length-replicate n 0));
+}

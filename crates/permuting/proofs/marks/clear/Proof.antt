@@ -1,0 +1,58 @@
+-- `clear` meets its contract. The loop's invariant: the bytes before i are cleared, and no other is touched.
+use borrow.Author.Needs.{needs}
+use borrow.Author.Fill.{fill-more}
+use mathlib.Core.Path.{_≡_, refl, ap, _∙_}
+use mathlib.Core.List.{List}
+use Prim.Native.Nat.{ℕ, _≤_, _<_, _-_}
+use native.Mathlib.Omega.{arith}
+use lib.ListN.{length, set}
+use Rattle.permuting.specs.Marks.{Cleared}
+use Rattle.permuting.proofs.marks.clear.Statement.{statement}
+use Rattle.permuting.proofs.marks.clear.Tie as tie
+
+abbrev Inv-loop : tie.InvT-loop
+Inv-loop s₀ n i₀ s i = (i ≤ n) × (length s ≡ length s₀) × Cleared i s₀ s
+
+abbrev μ-loop : tie.MeasureT-loop
+μ-loop s₀ n i₀ s i = n - i
+
+loop-holds : tie.Need-loop-holds Inv-loop μ-loop
+loop-holds c = (omega arith, refl, record { bytes = refl })
+
+slice-write-s : tie.Need-slice-write-s Inv-loop μ-loop
+slice-write-s c = search needs
+
+add-i : tie.Need-add-i Inv-loop μ-loop
+add-i c = search needs
+
+loop-less : tie.Need-loop-less Inv-loop μ-loop
+loop-less c = search needs
+
+loop-again : tie.Need-loop-again Inv-loop μ-loop
+loop-again c =
+    let s₀ = c .before .before .args .s .now in
+    let i = c .before .loop .i in
+    let h : i < length s₀ = omega arith in
+    (search needs, search needs, record { bytes = ap (λ (l : List ℕ). set l i 0) (c .before .loop .inv .2 .bytes) ∙ fill-more i 0 s₀ h })
+
+same-length : tie.Need-same-length Inv-loop μ-loop
+same-length c = search needs
+
+returns : tie.Need-returns Inv-loop μ-loop
+returns c =
+    let e : c .before .loop .i ≡ c .before .before .args .n = omega arith in
+    rw e at (c .before .loop .inv .2)
+
+pub clear-spec : {M : Type 1} → statement M
+clear-spec =
+    tie.close
+    (tie.spec
+    Inv-loop
+    μ-loop
+    loop-holds
+    slice-write-s
+    add-i
+    loop-less
+    loop-again
+    same-length
+    returns)

@@ -1,0 +1,69 @@
+-- `first_free` meets its contract. The loop's invariant: every place from `from` up to i is marked.
+use borrow.Author.Needs.{needs}
+use borrow.Author.Tests.{not-true, not-false}
+use mathlib.Core.Path.{_≡_, sym, _∙_}
+use mathlib.Core.Logic.{by-cases}
+use mathlib.Core.Bool.{true}
+use Prim.Native.Nat.{ℕ, _-_, _≤_, _<_}
+use native.Mathlib.Decide.{ℕ-discrete}
+use native.Mathlib.Omega.{arith}
+use Rattle.permuting.specs.Marks.{marked}
+use Rattle.permuting.proofs.marks.first_free.Statement.{statement}
+use Rattle.permuting.proofs.marks.first_free.Tie as tie
+
+abbrev Inv-loop : tie.InvT-loop
+Inv-loop s from n i₀ i = (i ≤ n) × (from ≤ i) × ((j : ℕ) → from ≤ j → j < i → marked s j ≡ true)
+
+abbrev μ-loop : tie.MeasureT-loop
+μ-loop s from n i₀ i = n - i
+
+loop-holds : tie.Need-loop-holds Inv-loop μ-loop
+loop-holds c = (search needs, search needs, λ j a b. absurd (omega arith))
+
+is-marked-requires : tie.Need-is-marked-requires Inv-loop μ-loop
+is-marked-requires c κs = search needs
+
+returns : tie.Need-returns Inv-loop μ-loop
+returns c =
+    let m = c .before .is-marked in
+    record {
+      least = omega arith;
+      most = omega arith;
+      passed = c .before .before .before .loop .inv .2;
+      free = λ _. sym (m .ensures) ∙ not-true (m .result) (c .if1 .taken);
+    }
+
+add-i : tie.Need-add-i Inv-loop μ-loop
+add-i c = search needs
+
+loop-less : tie.Need-loop-less Inv-loop μ-loop
+loop-less c = search needs
+
+loop-again : tie.Need-loop-again Inv-loop μ-loop
+loop-again c =
+    let l = c .before .before .before .loop in
+    let m = c .before .is-marked in
+    let here = sym (m .ensures) ∙ not-false (m .result) (c .if1 .left) in
+    (omega arith, omega arith, λ j a b. by-cases (ℕ-discrete j (l .i)) (λ q. rw q here) (λ q. l .inv .2 j a (omega arith)))
+
+returns-2 : tie.Need-returns-2 Inv-loop μ-loop
+returns-2 c = record {
+  least = omega arith;
+  most = search needs;
+  passed = λ j a b. c .before .loop .inv .2 j a (omega arith);
+  free = λ h. absurd (omega arith);
+}
+
+pub first-free-spec : {M : Type 1} → statement M
+first-free-spec =
+    tie.close
+    (tie.spec
+    Inv-loop
+    μ-loop
+    loop-holds
+    is-marked-requires
+    returns
+    add-i
+    loop-less
+    loop-again
+    returns-2)

@@ -1,0 +1,3 @@
+pub mod Tab
+pub mod Permutations
+pub mod Marks
