@@ -17,14 +17,18 @@ first-one (test ∷ more) (inr p) (inr q) = first-one more (p .1) (q .1)
 
 -- two answers to the same tests have the same number, and whatever is the same in two answers that are done, and in two that are
 -- refused, is the same
-pub answer-one : {tests : List Test} {n m : ℕ} {Done Nothing Done′ Nothing′ Same : Type 0} → (Done → Done′ → Same) → (Nothing → Nothing′ → Same)
-    → Answer tests n Done Nothing → Answer tests m Done′ Nothing′ → (n ≡ m) × Same
-answer-one {tests} {n} {m} {Done} {Nothing} {Done′} {Nothing′} {Same} done nothing a b =
+pub answer-one-when : {tests : List Test} {n m : ℕ} {Done Nothing Done′ Nothing′ Same : Type 0} → (First tests n → n ≡ 0 → Done → Done′ → Same)
+    → (Nothing → Nothing′ → Same) → Answer tests n Done Nothing → Answer tests m Done′ Nothing′ → (n ≡ m) × Same
+answer-one-when {tests} {n} {m} {Done} {Nothing} {Done′} {Nothing′} {Same} done nothing a b =
     let e : n ≡ m = first-one tests (a .first) (b .first) in (e, pick e (ℕ-discrete n 0))
   where
     pick : n ≡ m → Dec (n ≡ 0) → Same
-    pick e (yes z) = done (a .done z) (b .done (sym e ∙ z))
+    pick e (yes z) = done (a .first) z (a .done z) (b .done (sym e ∙ z))
     pick e (no z) = nothing (a .refused z) (b .refused (λ w. z (e ∙ w)))
+
+pub answer-one : {tests : List Test} {n m : ℕ} {Done Nothing Done′ Nothing′ Same : Type 0} → (Done → Done′ → Same) → (Nothing → Nothing′ → Same)
+    → Answer tests n Done Nothing → Answer tests m Done′ Nothing′ → (n ≡ m) × Same
+answer-one done = answer-one-when (λ _ _. done)
 
 -- the ways to answer
 pub answered : {tests : List Test} {Done Nothing : Type 0} → First tests 0 → Done → Answer tests 0 Done Nothing
@@ -37,3 +41,7 @@ refusing {tests} e first ne nothing =
       done = λ z. absurd (ne (sym e ∙ z));
       refused = λ _. nothing;
     }
+
+-- what the tests gave was 0
+pub answering : {tests : List Test} {n : ℕ} {Done Nothing : Type 0} → First tests n → n ≡ 0 → Done → Answer tests 0 Done Nothing
+answering {tests} first z done = answered (subst (λ (k : ℕ). First tests k) z first) done

@@ -2,13 +2,16 @@
 use mathlib.Core.Path.{_≡_, refl, sym, _∙_}
 use mathlib.Core.Logic.{_≢_, _⊎_, inl, inr, ⊎-elim}
 use mathlib.Core.List.{List, [], _∷_}
-use Prim.Native.Nat.{ℕ, _≤_, _<_}
+use Prim.Native.Nat.{ℕ, _+_, _*_, _/_, _≤_, _<_}
+use native.Mathlib.Nat.{mod-lt}
 use native.Mathlib.Decide.{ℕ-discrete, decLt}
 use native.Mathlib.Omega.{arith}
 use Rattle.triples.specs.declared.Triple.{Triple}
 use Rattle.triples.specs.Shuffles.{InRange, Permutes, Shuffle}
 use Rattle.qpp.proofs.Answers.{answered, refusing}
-use Rattle.qpp.specs.Refusals.{Test, First, Answer, range-then, shuffle-then, no-length, no-coefficient, no-shuffle}
+use Rattle.qpp.specs.Refusals.{Test, First, Answer, range-then, shuffle-then, no-length, no-coefficient, no-shuffle, no-block, no-scratch}
+use Rattle.qpp.specs.Moving.{block-tests}
+use Rattle.moving.specs.Moves.{Ready}
 
 -- "not two positions share a value" may be shown by its contrary's
 permutes-stable : (t : Triple) → ¬ (¬ Permutes t) → Permutes t
@@ -89,7 +92,7 @@ pub accepted : {t : Triple} {n : ℕ} → First (shuffle-then t []) n → n ≡ 
 accepted {t} = accepted-then {t = t} []
 
 -- a refusal stays one, whatever tests follow
-stays-refused : {t : Triple} {n : ℕ} (more : List Test) → First (shuffle-then t []) n → n ≢ 0 → First (shuffle-then t more) n
+pub stays-refused : {t : Triple} {n : ℕ} (more : List Test) → First (shuffle-then t []) n → n ≢ 0 → First (shuffle-then t more) n
 stays-refused more (inl p) ne = inl p
 stays-refused more (inr (p, inl q)) ne = inr (p, inl q)
 stays-refused more (inr (p, inr (q, inl r))) ne = inr (p, inr (q, inl r))
@@ -110,6 +113,42 @@ refuse-later {t} {more} e s first ne nothing = refusing e (shuffle-passes more s
 -- no test refuses
 pub answer-all : {t : Triple} {more : List Test} {Done Nothing : Type 0} → Shuffle t → First more 0 → Done → Answer (shuffle-then t more) 0 Done Nothing
 answer-all {t} {more} s first done = answered (shuffle-passes more s first) done
+
+-- ---- and of one that moves a block
+
+-- no test refuses: all that a mover asks
+pub movable-ready : {t : Triple} (block scratch n : ℕ) → First (block-tests t block scratch) n → n ≡ 0 → Ready t block scratch
+movable-ready {t} block scratch n first z =
+    let s = accepted-then {t = t} (no-block t block ∷ no-scratch t scratch ∷ []) first z in
+    record {
+      numbers = s .range;
+      permutes = record { within = λ i _. mod-lt (t .f1 * i + t .f2 * (i * i)) (omega (arith, s .range .low)); apart = s .permutes };
+      block-size = size first (ℕ-discrete block (t .k));
+      scratch-size = room first (decLt scratch ((t .k + 7) / 8));
+    }
+  where
+    last : First (block-tests t block scratch) n → First (no-block t block ∷ no-scratch t scratch ∷ []) n
+    last (inl p) = absurd (omega (arith, p .0))
+    last (inr (p, inl q)) = absurd (omega (arith, q .0))
+    last (inr (p, inr (q, inl r))) = absurd (omega (arith, r .0))
+    last (inr (p, inr (q, inr (r, l)))) = l
+
+    size : First (block-tests t block scratch) n → Dec (block ≡ t .k) → block ≡ t .k
+    size first (yes e) = e
+    size first (no ne) = never (last first)
+      where
+        never : First (no-block t block ∷ no-scratch t scratch ∷ []) n → block ≡ t .k
+        never (inl p) = absurd (omega (arith, p .0))
+        never (inr p) = absurd (p .0 ne)
+
+    room : First (block-tests t block scratch) n → Dec (scratch < (t .k + 7) / 8) → (t .k + 7) / 8 ≤ scratch
+    room first (no h) = omega arith
+    room first (yes h) = never (last first)
+      where
+        never : First (no-block t block ∷ no-scratch t scratch ∷ []) n → (t .k + 7) / 8 ≤ scratch
+        never (inl p) = absurd (omega (arith, p .0))
+        never (inr (p, inl q)) = absurd (omega (arith, q .0))
+        never (inr (p, inr (q, e))) = absurd (q h)
 
 -- ---- and of one that asks for the range alone
 

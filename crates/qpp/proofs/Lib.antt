@@ -2,6 +2,7 @@
 pub mod Answers
 pub mod Judging
 pub mod Determined
+pub mod Restoring
 pub mod Strides
 pub mod Trying
 pub mod CasesHold

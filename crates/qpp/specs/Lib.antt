@@ -1,4 +1,5 @@
 pub mod Refusals
 pub mod Promises
 pub mod Walking
+pub mod Moving
 pub mod Cases

@@ -1,10 +1,15 @@
 // The interleaver's calls. None trusts its caller: each tests the numbers that it is given, and answers or
 // refuses by a number of the table.
+mod blocks;
 mod lists;
 mod refusals;
 mod shuffles;
 mod walker;
 
+pub use blocks::deinterleave_i16;
+pub use blocks::deinterleave_u8;
+pub use blocks::interleave_i16;
+pub use blocks::interleave_u8;
 pub use lists::ArpForm;
 pub use lists::addresses;
 pub use lists::arp;

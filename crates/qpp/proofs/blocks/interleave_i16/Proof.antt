@@ -1,0 +1,33 @@
+-- `interleave_i16` meets its contract.
+use mathlib.Core.Path.{refl}
+use native.Mathlib.Omega.{arith}
+use Rattle.qpp.proofs.Answers.{refusing, answering}
+use Rattle.qpp.proofs.Judging.{movable-ready}
+use borrow.Author.Needs.{needs}
+use Rattle.qpp.proofs.blocks.interleave_i16.Statement.{statement}
+use Rattle.qpp.proofs.blocks.interleave_i16.Tie as tie
+
+movable-requires : tie.Need-movable-requires
+movable-requires c κs = search needs
+
+returns : tie.Need-returns
+returns c = refusing refl (c .before .movable .ensures) (c .if1 .taken) (refl, refl)
+
+interleave-i16-requires : tie.Need-interleave-i16-requires
+interleave-i16-requires c κs = movable-ready _ _ _ (c .before .before .before .movable .ensures) (omega arith)
+
+same-length : tie.Need-same-length
+same-length c = search needs
+
+same-length-2 : tie.Need-same-length-2
+same-length-2 c = search needs
+
+returns-2 : tie.Need-returns-2
+returns-2 c =
+    answering (c .before .before .before .before .before .before .before .movable .ensures) (omega arith)
+    (c .before .before .before .interleave-i16 .ensures)
+
+pub interleave-i16-spec : {M : Type 1} → statement M
+interleave-i16-spec =
+    tie.close
+    (tie.spec movable-requires returns interleave-i16-requires same-length same-length-2 returns-2)
