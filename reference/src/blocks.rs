@@ -96,8 +96,9 @@ fn small_fill(i: i32) -> i32 {
     32000 - 3203 * i
 }
 
+/// The symbols of a short block again and again.
 fn large_fill(i: i32) -> i32 {
-    (i * i * 7 + 13 * i) % 65536 - 32768
+    small_fill(i % 20)
 }
 
 /// One call on a block and a scratch of the given lengths, the scratch full of ones before it.

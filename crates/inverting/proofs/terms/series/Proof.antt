@@ -1,0 +1,71 @@
+-- `series` meets its contract, one term after the other.
+use mathlib.Core.Path.{refl}
+use Prim.Native.Nat.{_-_, _≤_}
+use native.Mathlib.Omega.{arith}
+use borrow.Author.Needs.{needs}
+use Rattle.inverting.proofs.Sowing.{Sowing, sowing-start, sowing-turn, sowing-end, minus}
+use Rattle.inverting.proofs.terms.series.Statement.{statement}
+use Rattle.inverting.proofs.terms.series.Tie as tie
+
+abbrev Inv-loop : tie.InvT-loop
+Inv-loop k f2 r minus-one square product step s₀ power₀ j₀ s power j = (j ≤ 13) × Sowing k f2 r s power j
+
+abbrev μ-loop : tie.MeasureT-loop
+μ-loop k f2 r minus-one square product step s₀ power₀ j₀ s power j = 13 - j
+
+sub-minus-one : tie.Need-sub-minus-one Inv-loop μ-loop
+sub-minus-one c = search needs
+
+times-requires : tie.Need-times-requires Inv-loop μ-loop
+times-requires c κs = search needs
+
+times-requires-2 : tie.Need-times-requires-2 Inv-loop μ-loop
+times-requires-2 c κs = search needs
+
+times-requires-3 : tie.Need-times-requires-3 Inv-loop μ-loop
+times-requires-3 c κs = search needs
+
+loop-holds : tie.Need-loop-holds Inv-loop μ-loop
+loop-holds c = (omega arith, sowing-start _ _ _ _ (omega arith) refl refl)
+
+catalan-at-requires : tie.Need-catalan-at-requires Inv-loop μ-loop
+catalan-at-requires c κs = search needs
+
+times-requires-4 : tie.Need-times-requires-4 Inv-loop μ-loop
+times-requires-4 c κs = search needs
+
+add-s : tie.Need-add-s Inv-loop μ-loop
+add-s c = search needs
+
+mul-s : tie.Need-mul-s Inv-loop μ-loop
+mul-s c = search needs
+
+array-write-s : tie.Need-array-write-s Inv-loop μ-loop
+array-write-s c = search needs
+
+times-requires-5 : tie.Need-times-requires-5 Inv-loop μ-loop
+times-requires-5 c κs = search needs
+
+add-j : tie.Need-add-j Inv-loop μ-loop
+add-j c = search needs
+
+loop-less : tie.Need-loop-less Inv-loop μ-loop
+loop-less c = search needs
+
+loop-again : tie.Need-loop-again Inv-loop μ-loop
+loop-again c =
+    let loop = c .before .before .before .before .loop in
+    let start = c .before .before .before .before .before in (
+      omega arith,
+      sowing-turn _ _ _ _ _ _ _ _ (loop .j) (loop .s) (omega arith)
+          (minus _ _ _ _ _ _ (start .before .before .times .ensures .0) (start .before .times2 .ensures .0) (start .times3 .ensures .0))
+          (c .before .before .catalan-at .ensures) (c .before .times4 .ensures) (c .times5 .ensures .0) (loop .inv .1),
+    )
+
+returns : tie.Need-returns Inv-loop μ-loop
+returns c = sowing-end _ _ _ _ _ _ (omega arith) (omega arith) (c .before .loop .inv .1)
+
+pub series-spec : {M : Type 1} → statement M
+series-spec =
+    tie.close
+    (tie.spec Inv-loop μ-loop sub-minus-one times-requires times-requires-2 times-requires-3 loop-holds catalan-at-requires times-requires-4 add-s mul-s array-write-s times-requires-5 add-j loop-less loop-again returns)

@@ -1,0 +1,65 @@
+-- `without_constant` meets its contract.
+use mathlib.Core.Path.{_≡_, refl, sym, ap, _∙_}
+use mathlib.Core.List.{List}
+use Prim.Native.Nat.{ℕ, _+_, _-_, _≤_, _<_}
+use native.Mathlib.Nat.{add-comm}
+use native.Mathlib.Omega.{arith}
+use lib.ListN.{length, getD, drop, length-drop}
+use lib.Seq.{ext-getD, getD-drop}
+use borrow.Author.Needs.{needs}
+use Rattle.polynomials.proofs.Filling.{filled-more}
+use Rattle.inverting.proofs.without_constant.Statement.{statement}
+use Rattle.inverting.proofs.without_constant.Tie as tie
+
+abbrev Inv-loop : tie.InvT-loop
+Inv-loop p a₀ j₀ a j = (j ≤ 13) × (length a ≡ 13) × ((i : ℕ) → i < j → getD a i 0 ≡ getD p (i + 1) 0)
+
+abbrev μ-loop : tie.MeasureT-loop
+μ-loop p a₀ j₀ a j = 13 - j
+
+copied : (p a : List ℕ) → length p ≡ 14 → length a ≡ 13 → ((i : ℕ) → i < 13 → getD a i 0 ≡ getD p (i + 1) 0) → a ≡ drop 1 p
+copied p a lp la h =
+    ext-getD 0 a (drop 1 p) (omega (arith, length-drop 1 p))
+    (λ i l. h i (omega arith) ∙ ap (λ (n : ℕ). getD p n 0) (add-comm i 1) ∙ sym (getD-drop 1 p i 0))
+
+loop-holds : tie.Need-loop-holds Inv-loop μ-loop
+loop-holds c = (omega arith, refl, λ i l. absurd (omega arith))
+
+add-a : tie.Need-add-a Inv-loop μ-loop
+add-a c = search needs
+
+mul-a : tie.Need-mul-a Inv-loop μ-loop
+mul-a c = search needs
+
+array-read-a : tie.Need-array-read-a Inv-loop μ-loop
+array-read-a c = search needs
+
+mul-a-2 : tie.Need-mul-a-2 Inv-loop μ-loop
+mul-a-2 c = search needs
+
+array-write-a : tie.Need-array-write-a Inv-loop μ-loop
+array-write-a c = search needs
+
+add-j : tie.Need-add-j Inv-loop μ-loop
+add-j c = search needs
+
+loop-less : tie.Need-loop-less Inv-loop μ-loop
+loop-less c = search needs
+
+loop-again : tie.Need-loop-again Inv-loop μ-loop
+loop-again c =
+    let loop = c .before .loop in (
+      omega arith,
+      search needs,
+      filled-more (λ (i x : ℕ). x ≡ getD (c .before .before .args .t1) (i + 1) 0) (loop .a) (loop .j) _ (omega arith) (loop .inv .2) refl,
+    )
+
+returns : tie.Need-returns Inv-loop μ-loop
+returns c =
+    copied (c .before .before .args .t1) (c .before .loop .a) (omega (arith, c .before .before .good)) (c .before .loop .inv .1)
+    (λ i l. c .before .loop .inv .2 i (omega arith))
+
+pub without-constant-spec : {M : Type 1} → statement M
+without-constant-spec =
+    tie.close
+    (tie.spec Inv-loop μ-loop loop-holds add-a mul-a array-read-a mul-a-2 array-write-a add-j loop-less loop-again returns)

@@ -1,0 +1,20 @@
+-- The series that undoes f, before it is brought inside the limits. These are definitions.
+use mathlib.Core.List.{List, [], _∷_}
+use Prim.Native.Nat.{ℕ, zero, suc, _*_, _-_, _^_}
+use lib.ListN.{getD}
+use Rattle.numbers.specs.Congruence.{Cong}
+use Rattle.polynomials.specs.Reductions.{Remainders}
+
+-- The Catalan numbers C(0) to C(12).
+unfoldable pub catalan : List ℕ
+catalan = 1 ∷ 1 ∷ 2 ∷ 5 ∷ 14 ∷ 42 ∷ 132 ∷ 429 ∷ 1430 ∷ 4862 ∷ 16796 ∷ 58786 ∷ 208012 ∷ []
+
+-- The coefficient at the place j + 1: C(j)·r·(-f2·r²) to the j-th, where k - 1 stands for -1. There is no constant.
+unfoldable pub term : ℕ → ℕ → ℕ → ℕ → ℕ
+term k f2 r zero = 0
+term k f2 r (suc j) = r * (((k - 1) * (f2 * (r * r))) ^ j * getD catalan j 0)
+
+-- s is the series, each place modulo k.
+pub record Series (k f2 r : ℕ) (s : List ℕ) : Type 0 where
+  pub below : Remainders k s
+  pub terms : (j : ℕ) → Cong k (getD s j 0) (term k f2 r j)

@@ -1,0 +1,14 @@
+-- `Filling`: arrays that a loop fills, and tables. `Differences`: whole numbers by natural ones. `Naturals`: polynomials with natural
+-- coefficients. `Nulls`: the top coefficient of one that is 0 everywhere. `Limiting`: the limits. `Degrees`: least degree and
+-- uniqueness. `Rising`: rising products. `Reducing`: one inside the limits. `Inverses`: the inverse, and that it is one.
+-- `Checking`: an inverse that is given by numbers.
+pub mod Filling
+pub mod Differences
+pub mod Naturals
+pub mod Nulls
+pub mod Limiting
+pub mod Degrees
+pub mod Rising
+pub mod Reducing
+pub mod Inverses
+pub mod Checking

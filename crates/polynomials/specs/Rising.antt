@@ -1,0 +1,19 @@
+-- The rising products y(y + 1)…(y + n - 1), which have no negative coefficients. These are definitions.
+use mathlib.Core.Path.{_≡_}
+use mathlib.Core.List.{List, [], _∷_}
+use Prim.Native.Nat.{ℕ, zero, suc, _+_, _*_, _%_}
+use lib.ListN.{getD}
+
+-- The coefficients of c + (y + n)·p(y).
+unfoldable pub times-linear : ℕ → ℕ → List ℕ → List ℕ
+times-linear n c [] = c ∷ []
+times-linear n c (a ∷ p) = (c + n * a) ∷ times-linear n a p
+
+-- The coefficients of the n-th rising product.
+unfoldable pub rising : ℕ → List ℕ
+rising zero = 1 ∷ []
+rising (suc n) = times-linear n 0 (rising n)
+
+-- q is p with t times the n-th rising product added, each place modulo K.
+abbrev pub Added : ℕ → ℕ → ℕ → List ℕ → List ℕ → Type 0
+Added K t n p q = (k : ℕ) → getD q k 0 ≡ (getD p k 0 + t * getD (rising n) k 0) % K
