@@ -15,7 +15,8 @@ use Rattle.polynomials.specs.Inverses.{Undoes}
 use Rattle.polynomials.proofs.Naturals.{valueℕ, scale, scale-place, scale-value, dilate, dilate-place, dilate-value, cong-value, cong-places}
 use Rattle.polynomials.proofs.Inverses.{Onto, undoes-wholes}
 use Rattle.inverting.specs.Series.{catalan, term, Series}
-use Rattle.inverting.specs.Answers.{address, Invertible}
+use Rattle.triples.specs.Shuffles.{triple, f}
+use Rattle.inverting.specs.Invertible.{Invertible}
 use Rattle.inverting.proofs.Catalan.{equation}
 
 module _ {k f1 f2 r : ℕ} {s : List ℕ} (given : Invertible k f1 f2 r) (series : Series k f2 r s) where
@@ -70,7 +71,7 @@ module _ {k f1 f2 r : ℕ} {s : List ℕ} (given : Invertible k f1 f2 r) (series
       one : k - 1 + 1 ≡ k
       one = omega (arith, given .low)
 
-  pub onto : Onto k (address k f1 f2)
+  pub onto : Onto k (f (triple k f1 f2))
   onto y l =
       let g = valueℕ s y in
       (g % k, mod-lt g (omega arith), cong-same (cong-sum (cong-sym (cong-mod k g)) ⨾ right y) ∙ mod-eq-of-lt l)
@@ -100,5 +101,5 @@ module _ {k f1 f2 r : ℕ} {s : List ℕ} (given : Invertible k f1 f2 r) (series
       above : g + x * k ≡ x + (g + x * k - x)
       above = omega (arith, le-mul-of-pos-right {m = k} x (omega (arith, given .low)))
 
-  pub undoes : Undoes k (address k f1 f2) (wholes s)
-  undoes = undoes-wholes k (address k f1 f2) s (λ x l. cong-value s (cong-sym (cong-mod k (sum x))) ⨾ left x)
+  pub undoes : Undoes k (f (triple k f1 f2)) (wholes s)
+  undoes = undoes-wholes k (f (triple k f1 f2)) s (λ x l. cong-value s (cong-sym (cong-mod k (sum x))) ⨾ left x)

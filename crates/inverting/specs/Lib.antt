@@ -1,2 +1,2 @@
 pub mod Series
-pub mod Answers
+pub mod Invertible

@@ -3,7 +3,9 @@ mod terms;
 
 ghost use mathlib.Core.Path.{_≡_};
 ghost use lib.ListN.{drop};
-ghost use Rattle.inverting.specs.Answers.{Invertible, Answer};
+ghost use Rattle.triples.specs.Shuffles.{triple, f};
+ghost use Rattle.polynomials.specs.Inverses.{Inverted};
+ghost use Rattle.inverting.specs.Invertible.{Invertible};
 
 // a[0] is a1, the coefficient of y.
 pub struct Polynomial {
@@ -27,7 +29,7 @@ fn without_constant(p: [u32; 14]) -> [u32; 13]
 // The inverse of f: the series, brought inside the limits. It is made of f2 and of the reciprocal r of f1.
 pub fn inverse(k: u32, f1: u32, f2: u32, r: u32) -> Polynomial
     requires { ⌜ Invertible k f1 f2 r ⌝ }
-    ensures { λ p. ⌜ Answer k f1 f2 (p .degree) (p .a) ⌝ }
+    ensures { λ p. ⌜ Inverted k (f (triple k f1 f2)) (p .degree) (p .a) ⌝ }
 {
     let s = terms::series(k, f2, r);
     let g = polynomials::reduce(k, s);

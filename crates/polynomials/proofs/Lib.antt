@@ -12,3 +12,4 @@ pub mod Rising
 pub mod Reducing
 pub mod Inverses
 pub mod Checking
+pub mod Answering

@@ -3,19 +3,21 @@ use mathlib.Core.Path.{_≡_, sym, _∙_}
 use mathlib.Core.List.{List, []}
 use Prim.Native.Nat.{ℕ}
 use Rattle.numbers.proofs.Congruences.{reciprocal-one}
+use Rattle.polynomials.proofs.Answering.{inverted-one}
 use Rattle.arp.proofs.Shifting.{arp-one}
 use Rattle.spreading.proofs.Distances.{spread-one}
 use Rattle.triples.proofs.Rows.{listed-one}
 use Rattle.triples.specs.declared.Triple.{Triple}
 use Rattle.triples.specs.Shuffles.{oddForm}
 use Rattle.qpp.specs.declared.shuffles.Value.{Value}
+use Rattle.qpp.specs.declared.inverses.InverseForm.{InverseForm}
 use Rattle.qpp.specs.declared.lists.ArpForm.{ArpForm}
 use Rattle.qpp.specs.declared.walker.Walker.{Walker}
 use Rattle.qpp.specs.declared.walker.Start.{Start}
 use Rattle.qpp.specs.declared.walker.Step.{Step}
 use Rattle.qpp.specs.Refusals.{shuffle-then}
 use Rattle.qpp.specs.Walking.{Started, Stepped}
-use Rattle.qpp.specs.Promises.{Acceptance, Address, ReciprocalOf, AddressList, ArpOf, SpreadOf}
+use Rattle.qpp.specs.Promises.{Acceptance, Address, ReciprocalOf, AddressList, ArpOf, SpreadOf, InverseOf}
 use Rattle.qpp.proofs.Answers.{first-one, answer-one}
 
 pub acceptance-one : (t : Triple) {n m : ℕ} → Acceptance t n → Acceptance t m → n ≡ m
@@ -55,3 +57,8 @@ arp-of-one {t} {before} {r} {s} {a} {b} x y =
 
 pub spread-of-one : {t : Triple} {r s : Value} → SpreadOf t r → SpreadOf t s → r ≡ s
 spread-of-one a b = value-same (answer-one spread-one (λ p q. p ∙ sym q) a b)
+
+pub inverse-of-one : {t : Triple} {r s : InverseForm} → InverseOf t r → InverseOf t s → r ≡ s
+inverse-of-one {t} {r} {s} x y =
+    let e = answer-one inverted-one (λ p q. (p .0 ∙ sym (q .0), p .1 ∙ sym (q .1))) x y in
+    λ i. record { number = e .0 i; degree = e .1 .0 i; a = e .1 .1 i }

@@ -2,13 +2,15 @@
 use mathlib.Core.Path.{_≡_}
 use mathlib.Core.List.{List, [], _∷_}
 use Prim.Native.Nat.{ℕ}
-use lib.ListN.{length}
+use lib.ListN.{length, replicate}
 use Rattle.numbers.specs.Congruence.{Reciprocal}
 use Rattle.triples.specs.declared.Triple.{Triple}
 use Rattle.triples.specs.Shuffles.{f, oddForm, Listed}
+use Rattle.polynomials.specs.Inverses.{Inverted}
 use Rattle.arp.specs.Arp.{Period, Arp}
 use Rattle.spreading.specs.Spread.{Spread}
 use Rattle.qpp.specs.declared.shuffles.Value.{Value}
+use Rattle.qpp.specs.declared.inverses.InverseForm.{InverseForm}
 use Rattle.qpp.specs.declared.lists.ArpForm.{ArpForm}
 use Rattle.qpp.specs.Refusals.{Test, First, Answer, shuffle-then, no-position, no-list}
 
@@ -38,3 +40,8 @@ ArpOf t before r after =
 -- The spread.
 abbrev pub SpreadOf : Triple → Value → Type 0
 SpreadOf t r = Answer (shuffle-then t []) (r .number) (Spread (f t) (t .k) (r .value)) (r .value ≡ 0)
+
+-- The inverse polynomial.
+abbrev pub InverseOf : Triple → InverseForm → Type 0
+InverseOf t r =
+    Answer (shuffle-then t []) (r .number) (Inverted (t .k) (f t) (r .degree) (r .a)) ((r .degree ≡ 0) × (r .a ≡ replicate 13 0))

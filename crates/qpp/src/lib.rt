@@ -1,6 +1,7 @@
 // The interleaver's calls. None trusts its caller: each tests the numbers that it is given, and answers or
 // refuses by a number of the table.
 mod blocks;
+mod inverses;
 mod lists;
 mod refusals;
 mod shuffles;
@@ -10,6 +11,8 @@ pub use blocks::deinterleave_i16;
 pub use blocks::deinterleave_u8;
 pub use blocks::interleave_i16;
 pub use blocks::interleave_u8;
+pub use inverses::InverseForm;
+pub use inverses::inverse;
 pub use lists::ArpForm;
 pub use lists::addresses;
 pub use lists::arp;
