@@ -1,4 +1,4 @@
--- Small triples tried position by position, so that a case is a computation.
+-- Small numbers tried one by one, so that a case is a computation.
 use mathlib.Core.Path.{_≡_, refl, sym, ap, subst, _∙_}
 use mathlib.Core.Logic.{_≢_, _⊎_, inl, inr}
 use mathlib.Core.Bool.{Bool, true, false, cond}
@@ -7,7 +7,6 @@ use Prim.Native.Nat.{ℕ, zero, suc, _≤_, _<_}
 use native.Mathlib.Decide.{ℕ-discrete}
 use native.Mathlib.Omega.{arith}
 use lib.Dec.{T, eqb, leb, ltb, eqb→eq}
-use lib.ListN.{getD}
 use borrow.Author.Tests.{eq-eqb, eqb-true, eqb-false, leb-true, leb-false, ltb-true, ltb-false}
 use Rattle.triples.specs.declared.Triple.{Triple}
 use Rattle.triples.specs.Shuffles.{f, InRange, Permutes, Shuffle}
@@ -93,14 +92,11 @@ judge-first t =
 pub judged-as : (t : Triple) (n : ℕ) → T (eqb (judge t) n) → First (shuffle-then t []) n
 judged-as t n e = subst (λ (m : ℕ). First (shuffle-then t []) m) (eqb→eq (judge t) n e) (judge-first t)
 
--- ---- the addresses
+-- ---- two rules at the numbers below n
 
-abbrev listed : Triple → List ℕ → ℕ → Bool
-listed t list x = eqb (getD list x 0) (f t x)
+T-true : (b : Bool) → T b → b ≡ true
+T-true true _ = refl
+T-true false e = absurd e
 
-pub listed-as : (t : Triple) (list : List ℕ) → T (every (listed t list) (t .k)) → (x : ℕ) → x < t .k → getD list x 0 ≡ f t x
-listed-as t list e x l = eqb-true _ _ (every-below (listed t list) (t .k) (T-true _ e) x l)
-  where
-    T-true : (b : Bool) → T b → b ≡ true
-    T-true true _ = refl
-    T-true false e = absurd e
+pub same-below : (n : ℕ) (u v : ℕ → ℕ) → T (every (λ i. eqb (u i) (v i)) n) → (i : ℕ) → i < n → u i ≡ v i
+same-below n u v e i l = eqb-true _ _ (every-below (λ i. eqb (u i) (v i)) n (T-true _ e) i l)

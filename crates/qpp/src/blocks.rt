@@ -34,7 +34,7 @@ pub fn interleave_u8(k: u32, f1: u32, f2: u32, block: &mut [u8], scratch: &mut [
     ensures { λ n. ⌜ Interleaves (triple k f1 f2) 0 (now (block .entry)) (now (scratch .entry)) n (now (block .exit)) (now (scratch .exit)) ⌝ }
 {
     let number = movable(k, f1, f2, block.len(), scratch.len());
-    if number != DONE {
+    if number != DONE { // nothing lent has been touched
         return number;
     }
     bytes::interleave_u8(Triple { k, f1, f2 }, block, scratch);
