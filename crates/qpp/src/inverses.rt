@@ -6,6 +6,7 @@ ghost use Rattle.triples.specs.Shuffles.{triple};
 ghost use Rattle.qpp.specs.Promises.{InverseOf};
 
 // A number of refusal, and beside 0 the degree and thirteen coefficient places: a[0] is a1.
+#[repr(C)]
 pub struct InverseForm {
     pub number: u32,
     pub degree: u32,

@@ -1,6 +1,7 @@
 // The interleaver's calls. None trusts its caller: each tests the numbers that it is given, and answers or
 // refuses by a number of the table.
 mod blocks;
+mod c;
 mod inverses;
 mod lists;
 mod refusals;

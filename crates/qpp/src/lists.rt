@@ -24,6 +24,7 @@ pub fn addresses(k: u32, f1: u32, f2: u32, list: &mut [u16]) -> u32
 }
 
 // A number of refusal, and beside 0 the numbers P and Q.
+#[repr(C)]
 pub struct ArpForm {
     pub number: u32,
     pub p: u32,

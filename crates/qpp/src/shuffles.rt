@@ -14,6 +14,7 @@ ghost use Rattle.qpp.specs.Promises.{Acceptance, Address, ReciprocalOf, 
 const LONGEST: u32 = 8192;
 
 // A number of refusal, and beside 0 what was asked for.
+#[repr(C)]
 pub struct Value {
     pub number: u32,
     pub value: u32,

@@ -10,6 +10,7 @@ ghost use Rattle.triples.specs.Shuffles.{triple};
 ghost use Rattle.qpp.specs.Walking.{nowhere, Started, Stepped};
 
 // A position of a triple. A walker made by hand may hold anything.
+#[repr(C)]
 pub struct Walker {
     pub k: u32,
     pub f1: u32,
@@ -17,11 +18,13 @@ pub struct Walker {
     pub at: u32,
 }
 
+#[repr(C)]
 pub struct Start {
     pub number: u32,
     pub walker: Walker,
 }
 
+#[repr(C)]
 pub struct Step {
     pub number: u32,
     pub address: u32,
