@@ -7,6 +7,7 @@
 mod blocks;
 mod card_input;
 mod cards;
+mod forms;
 mod inverses;
 mod line;
 mod shuffle;
@@ -25,6 +26,7 @@ fn run(what: &str, out: &mut impl Write) -> io::Result<bool> {
         "inverses" => inverses::write(out)?,
         "blocks" => blocks::write(out)?,
         "walks" => walks::write(out)?,
+        "forms" => forms::write(out)?,
         "cards" => {
             let mut input = Vec::new();
             io::stdin().lock().read_to_end(&mut input)?;
@@ -43,7 +45,7 @@ fn main() -> ExitCode {
     match run(&what, &mut out) {
         Ok(true) => ExitCode::SUCCESS,
         Ok(false) => {
-            eprintln!("usage: reference triples|inverses|blocks|walks|cards|card-input");
+            eprintln!("usage: reference triples|inverses|blocks|walks|forms|cards|card-input");
             ExitCode::from(2)
         }
         Err(error) => {
