@@ -2,10 +2,10 @@
 use mathlib.Core.Path.{_≡_}
 use mathlib.Core.List.{List}
 use Prim.Native.Nat.{ℕ, _+_, _*_, _%_, _≤_, _<_, _∣_}
-use lib.ListN.{length, getD}
+use lib.ListN.{getD}
 use Rattle.numbers.specs.Divisors.{Coprime}
 use Rattle.triples.specs.declared.Triple.{Triple}
-use Rattle.triples.specs.Shuffles.{f, oddForm}
+use Rattle.triples.specs.Shuffles.{f, oddForm, Written}
 
 -- The shift of j: f2·j² mod K.
 abbrev pub shift : Triple → ℕ → ℕ
@@ -21,17 +21,11 @@ pub record Period (t : Triple) (q : ℕ) : Type 0 where
   pub repeats : Repeats t q
   pub least : (p : ℕ) → p ∣ t .k → Repeats t p → q ≤ p
 
--- The list after holds S[0] to S[Q-1], and from Q on what it held before.
-pub record Shifts (t : Triple) (q : ℕ) (before after : List ℕ) : Type 0 where
-  pub size : length after ≡ length before
-  pub shifts : (j : ℕ) → j < q → getD after j 0 ≡ shift t j
-  pub rest : (j : ℕ) → q ≤ j → getD after j 0 ≡ getD before j 0
-
--- With f1 and f2 of the odd form: P is f1, Q the period and S the shifts; P shares no factor with K; and position i goes to
--- (P·i + S[i mod Q]) mod K.
+-- With f1 and f2 of the odd form: P is f1, Q the period, and the list holds S[0] to S[Q-1] and then what it held before;
+-- P shares no factor with K; and position i goes to (P·i + S[i mod Q]) mod K.
 pub record Arp (t : Triple) (p q : ℕ) (before after : List ℕ) : Type 0 where
   pub first : p ≡ oddForm t .f1
   pub coprime : Coprime p (t .k)
   pub period : Period (oddForm t) q
-  pub shifts : Shifts (oddForm t) q before after
+  pub shifts : Written (shift (oddForm t)) q before after
   pub addresses : (i : ℕ) → i < t .k → (p * i + getD after (i % q) 0) % t .k ≡ f t i

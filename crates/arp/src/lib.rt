@@ -2,8 +2,8 @@
 use triples::Triple;
 ghost use Prim.Native.Nat.{_≤_};
 ghost use lib.ListN.{length};
-ghost use Rattle.triples.specs.Shuffles.{InRange};
-ghost use Rattle.arp.specs.Arp.{Period, Shifts};
+ghost use Rattle.triples.specs.Shuffles.{InRange, Written};
+ghost use Rattle.arp.specs.Arp.{shift, Period};
 
 // The period Q. The numbers q with K dividing 2·f2·q are the multiples of K/gcd(K, 2·f2); the least of them
 // serves unless K fails to divide f2·q², and then its double does.
@@ -22,7 +22,7 @@ pub fn period(t: Triple) -> u32
 // Writes S[0] to S[Q-1]: the addresses of the triple without its first coefficient.
 pub fn shifts(t: Triple, q: u32, list: &mut [u16])
     requires { ⌜ InRange t × (q ≤ length (now list)) ⌝ }
-    ensures { λ _. ⌜ Shifts t q (now (list .entry)) (now (list .exit)) ⌝ }
+    ensures { λ _. ⌜ Written (shift t) q (now (list .entry)) (now (list .exit)) ⌝ }
 {
     let squares = Triple {
         k: t.k,

@@ -6,7 +6,7 @@ use Rattle.numbers.proofs.Congruences.{reciprocal-one}
 use Rattle.polynomials.proofs.Answering.{inverted-one}
 use Rattle.arp.proofs.Shifting.{arp-one}
 use Rattle.spreading.proofs.Distances.{spread-one}
-use Rattle.triples.proofs.Rows.{listed-one}
+use Rattle.triples.proofs.Rows.{written-one}
 use Rattle.triples.specs.declared.Triple.{Triple}
 use Rattle.triples.specs.Shuffles.{oddForm}
 use Rattle.qpp.specs.declared.shuffles.Value.{Value}
@@ -46,7 +46,7 @@ stepped-one {w} {r} {s} a b =
     both p q = (p .0 ∙ sym (q .0), p .1 ∙ sym (q .1))
 
 pub address-list-one : {t : Triple} {before : List ℕ} {n m : ℕ} {a b : List ℕ} → AddressList t before n a → AddressList t before m b → (n ≡ m) × (a ≡ b)
-address-list-one = answer-one listed-one (λ p q. p ∙ sym q)
+address-list-one = answer-one written-one (λ p q. p ∙ sym q)
 
 pub arp-of-one : {t : Triple} {before : List ℕ} {r s : ArpForm} {a b : List ℕ} → ArpOf t before r a → ArpOf t before s b → (r ≡ s) × (a ≡ b)
 arp-of-one {t} {before} {r} {s} {a} {b} x y =

@@ -61,5 +61,5 @@ three-agree {t} {x} {n} {r} {s} {before} {after} within list z called stepped =
     let right : r .number ≡ 0 =
     first-one (shuffle-then t (no-position t x ∷ [])) (called .first)
     (shuffle-passes {t = t} (no-position t x ∷ []) shuffle (inr ((λ h. omega arith), refl))) in
-    let here : getD after x 0 ≡ f t x = list .done z .addresses x within in
+    let here : getD after x 0 ≡ f t x = list .done z .entries x within in
     (called .done right ∙ sym here, handed (shuffle .range) within refl stepped .address ∙ sym here)

@@ -5,7 +5,7 @@ use Prim.Native.Nat.{ℕ}
 use lib.ListN.{length, replicate}
 use Rattle.numbers.specs.Congruence.{Reciprocal}
 use Rattle.triples.specs.declared.Triple.{Triple}
-use Rattle.triples.specs.Shuffles.{f, oddForm, Listed}
+use Rattle.triples.specs.Shuffles.{f, oddForm, Written}
 use Rattle.polynomials.specs.Inverses.{Inverted}
 use Rattle.arp.specs.Arp.{Period, Arp}
 use Rattle.spreading.specs.Spread.{Spread}
@@ -29,7 +29,7 @@ ReciprocalOf t r = Answer (shuffle-then t []) (r .number) (Reciprocal (t .k) (od
 -- The address list: the number, and the list after the call.
 abbrev pub AddressList : Triple → List ℕ → ℕ → List ℕ → Type 0
 AddressList t before number after =
-    Answer (shuffle-then t (no-list (λ n. n ≡ t .k) (length before) ∷ [])) number (Listed t (t .k) before after) (after ≡ before)
+    Answer (shuffle-then t (no-list (λ n. n ≡ t .k) (length before) ∷ [])) number (Written (f t) (t .k) before after) (after ≡ before)
 
 -- The ARP form: the number, P and Q, and the list after the call.
 abbrev pub ArpOf : Triple → List ℕ → ArpForm → List ℕ → Type 0

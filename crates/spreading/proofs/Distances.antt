@@ -8,7 +8,7 @@ use native.Mathlib.Omega.{arith}
 use lib.ListN.{length, getD, take}
 use lib.Seq.{getD-take, length-take-le}
 use Rattle.triples.specs.declared.Triple.{Triple}
-use Rattle.triples.specs.Shuffles.{f, Listed}
+use Rattle.triples.specs.Shuffles.{f, Written}
 use Rattle.spreading.specs.Spread.{distance, Spreads, Spread, Lesser, Closest}
 
 -- the distance of the entries at x and d further on
@@ -159,8 +159,8 @@ spread-same {φ} {ψ} {n} {s} e a =
 
 -- ---- the spread of a triple, from the front of a table that lists its addresses
 
-pub table-spread : {t : Triple} {s : ℕ} {before table : List ℕ} → Listed t (t .k) before table → t .k ≤ length before
+pub table-spread : (t : Triple) {s : ℕ} {before table : List ℕ} → Written (f t) (t .k) before table → t .k ≤ length before
     → Spread (λ i. getD (take (t .k) table) i 0) (length (take (t .k) table)) s → Spread (f t) (t .k) s
-table-spread {t} {s} {before} {table} l fits spread =
-    spread-same (λ x h. getD-take (t .k) table x 0 h ∙ l .addresses x h)
+table-spread t {s} {before} {table} l fits spread =
+    spread-same (λ x h. getD-take (t .k) table x 0 h ∙ l .entries x h)
     (subst (λ (n : ℕ). Spread (λ i. getD (take (t .k) table) i 0) n s) (length-take-le (t .k) table (omega (arith, l .size))) spread)

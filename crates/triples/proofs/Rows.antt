@@ -11,7 +11,7 @@ use lib.Seq.{getD-set-same, getD-set-other, ext-getD}
 use Rattle.numbers.specs.Congruence.{Cong}
 use Rattle.numbers.proofs.Congruences.{cong-eq, cong-sym, cong-same, cong-add, cong-mod, _⨾_}
 use Rattle.triples.specs.declared.Triple.{Triple}
-use Rattle.triples.specs.Shuffles.{f, Listed}
+use Rattle.triples.specs.Shuffles.{f, Written}
 
 -- what f gains from x to x + 1
 abbrev pub gain : Triple → ℕ → ℕ
@@ -67,18 +67,23 @@ listing-step t {n} {before} {list} {value} {rise} {x} twice value′ rise′ s b
         ap (λ (n : ℕ). getD (set list x value) n 0) e ∙ getD-set-same list x value 0 room ∙ s .value-is ∙ ap (λ (n : ℕ). f t n) (sym e)
     written i h (no e) = getD-set-other list x i value 0 e ∙ s .written i (omega arith)
 
-pub listing-end : {t : Triple} {n : ℕ} {before list : List ℕ} {value rise x : ℕ} → Listing t n before list value rise x → n ≤ x → Listed t n before list
+pub listing-end : {t : Triple} {n : ℕ} {before list : List ℕ} {value rise x : ℕ} → Listing t n before list value rise x → n ≤ x → Written (f t) n before list
 listing-end s h =
     record {
       size = s .size;
-      addresses = λ i l. s .written i (omega arith);
+      entries = λ i l. s .written i (omega arith);
       rest = λ i l. s .rest i (omega (arith, s .within));
     }
 
+-- ---- written lists
+
 -- one list fits
-pub listed-one : {t : Triple} {n : ℕ} {before a b : List ℕ} → Listed t n before a → Listed t n before b → a ≡ b
-listed-one {t} {n} {before} {a} {b} p q = ext-getD 0 a b (p .size ∙ sym (q .size)) (λ i l. at i (decLt i n))
+pub written-one : {rule : ℕ → ℕ} {n : ℕ} {before a b : List ℕ} → Written rule n before a → Written rule n before b → a ≡ b
+written-one {rule} {n} {before} {a} {b} p q = ext-getD 0 a b (p .size ∙ sym (q .size)) (λ i l. at i (decLt i n))
   where
     at : (i : ℕ) → Dec (i < n) → getD a i 0 ≡ getD b i 0
-    at i (yes h) = p .addresses i h ∙ sym (q .addresses i h)
+    at i (yes h) = p .entries i h ∙ sym (q .entries i h)
     at i (no h) = p .rest i (omega arith) ∙ sym (q .rest i (omega arith))
+
+pub written-same : {rule rule′ : ℕ → ℕ} {n : ℕ} {before after : List ℕ} → ((i : ℕ) → rule i ≡ rule′ i) → Written rule n before after → Written rule′ n before after
+written-same e w = record { size = w .size; entries = λ i h. w .entries i h ∙ e i; rest = w .rest }

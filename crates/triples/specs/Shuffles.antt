@@ -40,8 +40,8 @@ oddForm t =
     t)
     t
 
--- The list after holds f(0) to f(n-1), and from n on what it held before.
-pub record Listed (t : Triple) (n : ℕ) (before after : List ℕ) : Type 0 where
+-- The first n entries of the list after are those of the rule, and the rest is as it was before.
+pub record Written (rule : ℕ → ℕ) (n : ℕ) (before after : List ℕ) : Type 0 where
   pub size : length after ≡ length before
-  pub addresses : (x : ℕ) → x < n → getD after x 0 ≡ f t x
-  pub rest : (x : ℕ) → n ≤ x → getD after x 0 ≡ getD before x 0
+  pub entries : (i : ℕ) → i < n → getD after i 0 ≡ rule i
+  pub rest : (i : ℕ) → n ≤ i → getD after i 0 ≡ getD before i 0

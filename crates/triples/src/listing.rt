@@ -3,7 +3,7 @@ use crate::Triple;
 ghost use mathlib.Core.Path.{_≡_};
 ghost use Prim.Native.Nat.{_+_, _%_, _≤_, _<_};
 ghost use lib.ListN.{length};
-ghost use Rattle.triples.specs.Shuffles.{InRange, Listed};
+ghost use Rattle.triples.specs.Shuffles.{f, InRange, Written};
 
 // The sum of two remainders modulo k.
 fn plus(a: u32, b: u32, k: u32) -> u32
@@ -18,7 +18,7 @@ fn plus(a: u32, b: u32, k: u32) -> u32
 // rises by f1 + f2·(2x + 1), and that rises by 2·f2.
 pub fn fill(t: Triple, places: usize, list: &mut [u16])
     requires { ⌜ InRange t × (places ≤ length (now list)) ⌝ }
-    ensures { λ _. ⌜ Listed t places (now (list .entry)) (now (list .exit)) ⌝ }
+    ensures { λ _. ⌜ Written (f t) places (now (list .entry)) (now (list .exit)) ⌝ }
 {
     let twice = plus(t.f2, t.f2, t.k);
     let mut rise = plus(t.f1, t.f2, t.k);

@@ -32,7 +32,7 @@ same-length c = search needs
 returns : tie.Need-returns
 returns c =
     let a = c .before .before .before .before .before .before .before .before in
-    table-spread (c .before .before .before .before .fill .ensures) (a .pre .1) (c .search .ensures)
+    table-spread (a .args .t) (c .before .before .before .before .fill .ensures) (a .pre .1) (c .search .ensures)
 
 pub measure-spec : {M : Type 1} → statement M
 measure-spec =
