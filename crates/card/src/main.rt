@@ -1,0 +1,99 @@
+// The card program: reads standard input to its end, and writes a card for each line to standard output.
+use cards::Line;
+ghost use Prim.Native.Nat.{_+_, _≤_};
+ghost use lib.ListN.{length};
+
+// Whether to go on, and how many bytes at the start of the buffer are not written yet.
+struct Room {
+    going: bool,
+    end: usize,
+}
+
+// Empties a buffer that may have no room for another card.
+fn make_room(out: &[u8], end: usize) -> Room
+    requires { ⌜ (end ≤ length (now out)) × (256 ≤ length (now out)) ⌝ }
+    ensures { λ r. ⌜ r .end + 256 ≤ length (now (out .entry)) ⌝ }
+{
+    if out.len() - end >= cards::ROOM {
+        return Room { going: true, end };
+    }
+    Room {
+        going: io::write_all(libc::STDOUT_FILENO, &out[..end]),
+        end: 0,
+    }
+}
+
+struct Progress {
+    going: bool,
+    line: Line,
+    end: usize,
+}
+
+// Takes a whole piece of the input.
+fn take(piece: &[u8], unended: Line, out: &mut [u8], at: usize) -> Progress
+    requires { ⌜ (at ≤ length (now out)) × (256 ≤ length (now out)) ⌝ }
+    ensures { λ r. ⌜ r .end ≤ length (now (out .entry)) ⌝ }
+{
+    let mut line = unended;
+    let mut end = at;
+    let mut done = 0;
+    while done < piece.len() {
+        let room = make_room(out, end);
+        if !room.going {
+            return Progress {
+                going: false,
+                line,
+                end: 0,
+            };
+        }
+        let fed = cards::feed(&piece[done..], line, out, room.end);
+        line = fed.line;
+        end = fed.end;
+        done += fed.taken;
+    }
+    Progress {
+        going: true,
+        line,
+        end,
+    }
+}
+
+fn finish(line: Line, out: &mut [u8], at: usize)
+    requires { ⌜ (at ≤ length (now out)) × (256 ≤ length (now out)) ⌝ }
+{
+    let room = make_room(out, at);
+    if room.going {
+        let end = cards::finish(line, out, room.end);
+        io::write_all(libc::STDOUT_FILENO, &out[..end]);
+    }
+}
+
+// A proved loop has to end, and nothing says that the input does. So the loop counts its turns down, from a
+// number that no run uses up.
+fn run(piece: &mut [u8], out: &mut [u8])
+    requires { ⌜ 256 ≤ length (now out) ⌝ }
+{
+    let mut line = Line::new();
+    let mut end = 0;
+    let mut turns = u64::MAX;
+    while turns > 0 {
+        let size = io::count(libc::read(libc::STDIN_FILENO, piece), piece);
+        if size == 0 {
+            finish(line, out, end);
+            return;
+        }
+        let progress = take(&piece[..size], line, out, end);
+        if !progress.going {
+            return;
+        }
+        line = progress.line;
+        end = progress.end;
+        turns -= 1;
+    }
+}
+
+fn main() {
+    let mut piece = io::large_buffer();
+    let mut out = io::large_buffer();
+    run(&mut piece, &mut out);
+}

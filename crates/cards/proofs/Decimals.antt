@@ -1,0 +1,66 @@
+-- Laws of the text of a number.
+use mathlib.Core.Path.{_≡_, refl, sym, ap, subst, _∙_}
+use mathlib.Core.Bool.{Bool, true, false, cond}
+use mathlib.Core.List.{List, [], _∷_, _++_}
+use Prim.Native.Nat.{ℕ, zero, suc, _+_, _*_, _/_, _%_, _^_, _≤_, _<_}
+use native.Mathlib.Nat.{pow-zero, pow-suc}
+use native.Mathlib.Numerals.{add-one}
+use native.Mathlib.Omega.{arith}
+use lib.Dec.{ltb}
+use lib.ListN.{length, length-append}
+use borrow.Author.Tests.{lt-ltb, le-ltb, ltb-true, ltb-false}
+use native.Mathlib.Decide.{decLt}
+use Rattle.cards.specs.Texts.{last-digit, decimals, decimal}
+
+-- below ten, one digit
+pub decimals-one : (more n : ℕ) → n < 10 → decimals more n ≡ last-digit n
+unfolding decimals
+decimals-one zero n h = refl
+decimals-one (suc more) n h = rw (lt-ltb n 10 h)
+
+-- from ten on, the digits of the tenth and then the last
+pub decimals-more : (more n : ℕ) → 10 ≤ n → decimals (suc more) n ≡ decimals more (n / 10) ++ last-digit n
+unfolding decimals
+decimals-more more n h = rw (le-ltb n 10 h)
+
+-- allowing one digit more changes nothing
+pub decimals-longer : (more n : ℕ) → n < 10 ^ suc more → decimals (suc more) n ≡ decimals more n
+decimals-longer zero n h = decimals-one 1 n (omega (arith, pow-suc 10 0, pow-zero 10)) ∙ sym (decimals-one 0 n (omega (arith, pow-suc 10 0, pow-zero 10)))
+decimals-longer (suc more) n h = pick (decLt n 10) (λ l. decimals-longer more (n / 10) l)
+  where
+    pick : Dec (n < 10) → (n / 10 < 10 ^ suc more → decimals (suc more) (n / 10) ≡ decimals more (n / 10)) → decimals (suc (suc more)) n ≡ decimals (suc more) n
+    pick (yes l) w = decimals-one (suc (suc more)) n l ∙ sym (decimals-one (suc more) n l)
+    pick (no l) w =
+        decimals-more (suc more) n (omega arith)
+        ∙ ap (λ (text : List ℕ). text ++ last-digit n) (w (omega (arith, pow-suc 10 (suc more))))
+        ∙ sym (decimals-more more n (omega arith))
+
+decimals-zero : (n : ℕ) → decimals 0 n ≡ last-digit n
+unfolding decimals
+decimals-zero n = refl
+
+-- one to `more` + 1 digits
+pub decimals-length : (more n : ℕ) → (1 ≤ length (decimals more n)) × (length (decimals more n) ≤ more + 1)
+decimals-length zero n =
+    let e = ap length (decimals-zero n) in omega arith
+decimals-length (suc more) n = pick (decLt n 10) (decimals-length more (n / 10))
+  where
+    pick : Dec (n < 10) → (1 ≤ length (decimals more (n / 10))) × (length (decimals more (n / 10)) ≤ more + 1)
+        → (1 ≤ length (decimals (suc more) n)) × (length (decimals (suc more) n) ≤ suc more + 1)
+    pick (yes l) w = let e = ap length (decimals-one (suc more) n l) in omega arith
+    pick (no l) w = let e = ap length (decimals-more more n (omega arith)) ∙ length-append (decimals more (n / 10)) (last-digit n) in omega arith
+
+-- ---- the text of a number of 32 bits
+
+pub decimal-one : (n : ℕ) → n < 10 → decimal n ≡ last-digit n
+decimal-one n = decimals-one 9 n
+
+pub decimal-more : (n : ℕ) → n < 4294967296 → 10 ≤ n → decimal n ≡ decimal (n / 10) ++ last-digit n
+decimal-more n h l =
+    decimals-more 8 n l ∙ ap (λ (text : List ℕ). text ++ last-digit n) (sym (decimals-longer 8 (n / 10) (omega (arith))))
+
+pub decimal-length : (n : ℕ) → (1 ≤ length (decimal n)) × (length (decimal n) ≤ 10)
+decimal-length n = decimals-length 9 n
+
+pub decimal-more-length : (n : ℕ) → n < 4294967296 → 10 ≤ n → length (decimal n) ≡ length (decimal (n / 10)) + 1
+decimal-more-length n h l = ap length (decimal-more n h l) ∙ length-append (decimal (n / 10)) (last-digit n)

@@ -1,0 +1,108 @@
+-- Pieces of the input, one after the other.
+use mathlib.Core.Path.{_≡_, refl, sym, ap, subst, _∙_}
+use mathlib.Core.Logic.{_≢_, _⊎_, inl, inr}
+use mathlib.Core.List.{List, [], _∷_, _++_, append-assoc}
+use Prim.Native.Nat.{ℕ, suc, _+_, _-_, _≤_, _<_}
+use native.Mathlib.Decide.{ℕ-discrete}
+use native.Mathlib.Numerals.{add-one}
+use native.Mathlib.Omega.{arith}
+use lib.ListN.{length, getD, take}
+use lib.Seq.{take-suc}
+use Rattle.cards.specs.declared.lines.Line.{Line}
+use Rattle.cards.specs.declared.streaming.Fed.{Fed}
+use Rattle.cards.specs.Texts.{newline, Appended}
+use Rattle.cards.specs.Cards.{unreadable-word, CardOf, CardAt}
+use Rattle.cards.specs.Lines.{Holding}
+use Rattle.cards.specs.Output.{ending, Output, Goes, Took, FedBy, Ended}
+use Rattle.cards.proofs.Appending.{appended-none, appended-then}
+
+goes-then : (seen mid rest p q s t : List ℕ) → Goes seen p mid s → Goes mid q rest t → Goes seen (p ++ q) rest (s ++ t)
+goes-then seen mid rest p q s t first second more out o = rw (append-assoc p q more, append-assoc s t out) (first (q ++ more) (t ++ out) (second more out o))
+
+-- ---- one byte
+
+pub took-line : {seen before after : List ℕ} {line : Line} {at end byte : ℕ} → byte ≡ newline → CardAt seen before at after end → Holding [] line
+    → Took seen (byte ∷ []) line before at after end
+took-line e c h =
+    record { rest = []; text = c .text; holds = h; goes = λ more out o. inl (e, c .text, out, c .card, o, refl); written = c .written }
+
+pub took-byte : {seen before : List ℕ} {line : Line} {at byte : ℕ} → byte ≢ newline → at ≤ length before → Holding (seen ++ (byte ∷ [])) line
+    → Took seen (byte ∷ []) line before at before at
+took-byte {seen} {byte = byte} ne fits h =
+    record { rest = seen ++ (byte ∷ []); text = []; holds = h; goes = λ more out o. inr (ne, o); written = appended-none fits }
+
+-- ---- a piece, a byte a turn
+
+pub record Feeding (piece before : List ℕ) (at : ℕ) (unended : Line) (out : List ℕ) (line : Line) (end taken : ℕ) : Type 0 where
+  pub took : (seen : List ℕ) → Holding seen unended → Took seen (take taken piece) line before at out end
+  pub within : taken ≤ length piece
+  pub size : length out ≡ length before
+  pub fits : end ≤ length before
+  pub unmoved : taken ≡ 0 → end ≡ at
+
+pub feeding-start : {piece before : List ℕ} {at : ℕ} {line : Line} → at ≤ length before → Feeding piece before at line before line at 0
+feeding-start h =
+    record {
+      took = λ seen w. record { rest = seen; text = []; holds = w; goes = λ more out o. o; written = appended-none h };
+      within = omega arith;
+      size = refl;
+      fits = h;
+      unmoved = λ _. refl;
+    }
+
+pub feeding-turn : {piece before out after : List ℕ} {at end taken end′ : ℕ} {unended line line′ : Line} → Feeding piece before at unended out line end taken
+    → taken < length piece → ((seen : List ℕ) → Holding seen line → Took seen (getD piece taken 0 ∷ []) line′ out end after end′)
+    → end′ ≤ length out → length after ≡ length out → Feeding piece before at unended after line′ end′ (taken + 1)
+feeding-turn {piece} {before} {out} {after} {at} {end} {taken} {end′} {unended} {line} {line′} g h step fits same =
+    record {
+      took = λ seen w. then seen (g .took seen w);
+      within = omega arith;
+      size = same ∙ g .size;
+      fits = omega (arith, g .size);
+      unmoved = λ z. absurd (omega arith);
+    }
+  where
+    further : take taken piece ++ (getD piece taken 0 ∷ []) ≡ take (taken + 1) piece
+    further = sym (ap (λ (n : ℕ). take n piece) (add-one taken) ∙ take-suc piece taken 0 h)
+
+    then : (seen : List ℕ) → Took seen (take taken piece) line before at out end → Took seen (take (taken + 1) piece) line′ before at after end′
+    then seen a =
+        let b = step (a .rest) (a .holds) in
+        record {
+          rest = b .rest;
+          text = a .text ++ b .text;
+          holds = b .holds;
+          goes =
+              subst (λ (l : List ℕ). Goes seen l (b .rest) (a .text ++ b .text)) further
+              (goes-then seen (a .rest) (b .rest) (take taken piece) (getD piece taken 0 ∷ []) (a .text) (b .text) (a .goes) (b .goes));
+          written = appended-then (a .written) (b .written);
+        }
+
+pub feeding-end : {piece before out : List ℕ} {at end taken : ℕ} {unended line : Line} → Feeding piece before at unended out line end taken
+    → (at + 256 ≤ length before → 1 ≤ length piece → 1 ≤ taken) → FedBy piece unended before at (record { taken = taken; line = line; end = end }) out
+feeding-end g moves = record { took = g .took; within = g .within; fits = g .fits; moves = moves }
+
+-- ---- the end of the input
+
+none-left : (seen : List ℕ) (line : Line) → Holding seen line → line .size ≡ 0 → [] ≡ ending seen
+none-left [] line h e = refl
+none-left (b ∷ seen) line h e = absurd (omega (arith, h .size))
+
+some-left : (seen : List ℕ) (line : Line) → Holding seen line → line .size ≢ 0 → unreadable-word ++ (newline ∷ []) ≡ ending seen
+some-left [] line h ne = absurd (ne (h .size))
+some-left (b ∷ seen) line h ne = refl
+
+pub ended-clean : {seen before : List ℕ} {line : Line} {at : ℕ} → Holding seen line → line .size ≡ 0 → at ≤ length before → Ended seen before at before at
+ended-clean {seen} {before} {line} h e fits = record { text = []; last = none-left seen line h e; written = appended-none fits }
+
+pub ended-cut : {seen before after : List ℕ} {line : Line} {at end : ℕ} → Holding seen line → line .size ≢ 0
+    → Appended before at (unreadable-word ++ (newline ∷ [])) after end → Ended seen before at after end
+ended-cut {seen} {line = line} h ne w = record { text = unreadable-word ++ (newline ∷ []); last = some-left seen line h ne; written = w }
+
+-- a stop for want of room comes after something was taken
+pub moved : {at end taken : ℕ} (size : ℕ) → (taken ≡ 0 → end ≡ at) → size - end < 256 → at + 256 ≤ size → 1 ≤ taken
+moved {at} {end} {taken} size unmoved little room = pick (ℕ-discrete taken 0)
+  where
+    pick : Dec (taken ≡ 0) → 1 ≤ taken
+    pick (yes z) = absurd (omega (arith, unmoved z))
+    pick (no z) = omega arith

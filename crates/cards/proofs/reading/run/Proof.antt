@@ -1,0 +1,60 @@
+-- `run` meets its contract.
+use Prim.Native.Nat.{_-_, _≤_}
+use native.Mathlib.Omega.{arith}
+use lib.ListN.{length, take}
+use borrow.Author.Tests.{not-true, not-false}
+use Rattle.cards.specs.Texts.{Digits}
+use Rattle.cards.proofs.Digiting.{run-turn, run-stops, run-ends}
+use borrow.Author.Needs.{needs}
+use Rattle.cards.proofs.reading.run.Statement.{statement}
+use Rattle.cards.proofs.reading.run.Tie as tie
+use Rattle.cards.proofs.reading.is_digit.Reads as is-digit-reads
+
+abbrev Inv-loop : tie.InvT-loop
+Inv-loop text end₀ end = (end ≤ length text) × Digits (take end text)
+
+abbrev μ-loop : tie.MeasureT-loop
+μ-loop text end₀ end = length text - end
+
+loop-holds : tie.Need-loop-holds Inv-loop μ-loop
+loop-holds c = search needs
+
+shared-slice-read-is-digit : tie.Need-shared-slice-read-is-digit Inv-loop μ-loop
+shared-slice-read-is-digit c = search needs
+
+is-digit-requires : tie.Need-is-digit-requires Inv-loop μ-loop
+is-digit-requires c κs = search needs
+
+returns : tie.Need-returns Inv-loop μ-loop
+returns c =
+    let l = c .before .before .before .before in
+    run-stops (l .before .before .args .text .now) (l .loop .end) (l .loop .inv .1) (omega arith) (c .before .is-digit .ensures .no-only-if (not-true _ (c .if1 .taken)))
+
+add-end : tie.Need-add-end Inv-loop μ-loop
+add-end c = search needs
+
+loop-less : tie.Need-loop-less Inv-loop μ-loop
+loop-less c = search needs
+
+loop-again : tie.Need-loop-again Inv-loop μ-loop
+loop-again c =
+    let l = c .before .before .before .before in
+    (omega arith, run-turn (l .before .before .args .text .now) (l .loop .end) (l .loop .inv .1) (omega arith) (c .before .is-digit .ensures .yes-only-if (not-false _ (c .if1 .left))))
+
+returns-2 : tie.Need-returns-2 Inv-loop μ-loop
+returns-2 c = run-ends (c .before .before .before .args .text .now) (c .before .loop .end) (c .before .loop .inv .1) (omega arith) (omega arith)
+
+pub run-spec : {M : Type 1} → statement M
+run-spec =
+    tie.close
+    (tie.spec
+    Inv-loop
+    μ-loop
+    loop-holds
+    shared-slice-read-is-digit
+    is-digit-requires
+    returns
+    add-end
+    loop-less
+    loop-again
+    returns-2)

@@ -1,0 +1,68 @@
+-- `value` meets its contract.
+use mathlib.Core.Path.{_≡_}
+use Prim.Native.Nat.{_-_, _≤_, _<_}
+use native.Mathlib.Omega.{arith}
+use lib.ListN.{length, take}
+use Rattle.cards.specs.Texts.{value}
+use Rattle.cards.proofs.Digiting.{digits-at, value-small, value-turn, value-end}
+use Rattle.cards.proofs.reading.value.Reads as reads
+use Rattle.cards.proofs.reading.value.Lts as lts
+use borrow.Author.Needs.{needs}
+use Rattle.cards.proofs.reading.value.Statement.{statement}
+use Rattle.cards.proofs.reading.value.Tie as tie
+
+abbrev Inv-loop : tie.InvT-loop
+Inv-loop digits n₀ i₀ n i = (i ≤ length digits) × (n ≡ value 0 (take i digits))
+
+abbrev μ-loop : tie.MeasureT-loop
+μ-loop digits n₀ i₀ n i = length digits - i
+
+loop-holds : tie.Need-loop-holds Inv-loop μ-loop
+loop-holds c = search needs
+
+small : (c : lts.In-loop reads.Pre reads.Post Inv-loop μ-loop) → c .before .loop .n < 10000
+small c = value-small (c .before .before .args .digits .now) (c .before .loop .i) (c .before .loop .n) (c .before .before .pre .0) (omega arith) (c .before .before .pre .1) (c .before .loop .inv .1)
+
+mul-n : tie.Need-mul-n Inv-loop μ-loop
+mul-n c = omega (arith, small c)
+
+shared-slice-read-n : tie.Need-shared-slice-read-n Inv-loop μ-loop
+shared-slice-read-n c = search needs
+
+sub-n : tie.Need-sub-n Inv-loop μ-loop
+sub-n c = omega (arith, digits-at (c .before .before .before .args .digits .now) (c .before .before .loop .i) (c .before .before .before .pre .0) (omega arith) .low)
+
+cast-n : tie.Need-cast-n Inv-loop μ-loop
+cast-n c = omega (arith, c .shared-slice-known .given (c .before .before .loop .i))
+
+add-n : tie.Need-add-n Inv-loop μ-loop
+add-n c = omega (arith, small (c .before), c .shared-slice-known .given (c .before .before .loop .i))
+
+add-i : tie.Need-add-i Inv-loop μ-loop
+add-i c = search needs
+
+loop-less : tie.Need-loop-less Inv-loop μ-loop
+loop-less c = search needs
+
+loop-again : tie.Need-loop-again Inv-loop μ-loop
+loop-again c = (omega arith, value-turn (c .before .before .before .args .digits .now) (c .before .before .loop .i) (c .before .before .loop .n) (c .before .before .loop .inv .1) (omega arith))
+
+returns : tie.Need-returns Inv-loop μ-loop
+returns c = value-end (c .before .before .args .digits .now) (c .before .loop .i) (c .before .loop .n) (c .before .loop .inv .1) (omega arith)
+
+pub value-spec : {M : Type 1} → statement M
+value-spec =
+    tie.close
+    (tie.spec
+    Inv-loop
+    μ-loop
+    loop-holds
+    mul-n
+    shared-slice-read-n
+    sub-n
+    cast-n
+    add-n
+    add-i
+    loop-less
+    loop-again
+    returns)

@@ -1,0 +1,19 @@
+-- `number` meets its contract.
+use native.Mathlib.Omega.{arith}
+use Rattle.cards.proofs.Decimals.{decimal-length}
+use borrow.Author.Needs.{needs}
+use Rattle.cards.proofs.writing.number.Statement.{statement}
+use Rattle.cards.proofs.writing.number.Tie as tie
+
+digits-requires : tie.Need-digits-requires
+digits-requires c κs = omega (arith, decimal-length (c .before .before .args .n))
+
+same-length : tie.Need-same-length
+same-length c = search needs
+
+returns : tie.Need-returns
+returns c =
+    let d = c .before .before in (d .digits .ensures, omega (arith, d .digits .ensures .size, decimal-length (d .before .before .before .args .n)))
+
+pub number-spec : {M : Type 1} → statement M
+number-spec = tie.close (tie.spec digits-requires same-length returns)

@@ -1,0 +1,77 @@
+// A line that arrives in pieces. It is kept only so far as it matters: a readable line has at most 17 bytes, so one of 18 is
+// unreadable whatever comes after them.
+use crate::composing::card;
+ghost use mathlib.Core.Path.{_≡_};
+ghost use mathlib.Core.List.{List, [], _∷_, _++_};
+ghost use Prim.Native.Nat.{ℕ, _+_, _≤_, _<_};
+ghost use lib.ListN.{length, set, take};
+ghost use Rattle.cards.specs.Cards.{CardAt};
+ghost use Rattle.cards.specs.Lines.{Holding};
+
+const MOST: usize = 18;
+
+// The bytes of a line that has not ended yet. One made by hand may hold anything.
+pub struct Line {
+    pub bytes: [u8; 18],
+    pub size: usize,
+}
+
+fn at_most(size: usize) -> usize
+    ensures { λ r. ⌜ (r ≤ 18) × (size ≤ 18 → r ≡ size) ⌝ }
+{
+    if size > MOST {
+        return MOST;
+    }
+    size
+}
+
+fn stored(bytes: [u8; 18], at: usize, byte: u8) -> [u8; 18]
+    requires { ⌜ at < 18 ⌝ }
+    ensures { λ r. ⌜ (r ≡ set bytes at byte) × (at < length bytes) ⌝ }
+{
+    let mut changed = bytes;
+    changed[at] = byte;
+    changed
+}
+
+fn card_of(bytes: [u8; 18], size: usize, out: &mut [u8], at: usize) -> usize
+    requires { ⌜ (size ≤ 18) × (at + 256 ≤ length (now out)) ⌝ }
+    ensures { λ end. ⌜ CardAt (take size bytes) (now (out .entry)) at (now (out .exit)) end ⌝ }
+{
+    card(&bytes[..size], out, at)
+}
+
+impl Line {
+    pub fn new() -> Line
+        ensures { λ r. ⌜ Holding [] r ⌝ }
+    {
+        Line {
+            bytes: [0; 18],
+            size: 0,
+        }
+    }
+
+    // The line with one byte more.
+    pub fn push(self, byte: u8) -> Line
+        ensures { λ r. ⌜ ((seen : List ℕ) → Holding seen self → Holding (seen ++ (byte ∷ [])) r) ⌝ }
+    {
+        let at = self.size;
+        if at >= MOST {
+            return self;
+        }
+        let bytes = self.bytes;
+        Line {
+            bytes: stored(bytes, at, byte),
+            size: at + 1,
+        }
+    }
+
+    // Writes the card of the line, and answers where it ends.
+    pub fn card(self, out: &mut [u8], at: usize) -> usize
+        requires { ⌜ at + 256 ≤ length (now out) ⌝ }
+        ensures { λ end. ⌜ ((seen : List ℕ) → Holding seen self → CardAt seen (now (out .entry)) at (now (out .exit)) end) × (end ≤ length (now (out .entry))) ⌝ }
+    {
+        let bytes = self.bytes;
+        card_of(bytes, at_most(self.size), out, at)
+    }
+}

@@ -1,0 +1,69 @@
+// Cards for an input that arrives in pieces of any size, into a buffer that is emptied now and then.
+use crate::lines::Line;
+use crate::writing::word;
+ghost use mathlib.Core.List.{List, [], _∷_};
+ghost use Prim.Native.Nat.{ℕ, _+_, _≤_, _<_};
+ghost use lib.ListN.{length, take};
+ghost use Rattle.cards.specs.Lines.{Holding};
+ghost use Rattle.cards.specs.Output.{Took, FedBy, Ended};
+
+// Enough for any card.
+pub const ROOM: usize = 256;
+
+// The line that has not ended, and where its cards end in the buffer.
+pub struct Progress {
+    pub line: Line,
+    pub end: usize,
+}
+
+fn take_byte(line: Line, byte: u8, out: &mut [u8], at: usize) -> Progress
+    requires { ⌜ at + 256 ≤ length (now out) ⌝ }
+    ensures { λ r. ⌜ ((seen : List ℕ) → Holding seen line → Took seen (byte ∷ []) (r .line) (now (out .entry)) at (now (out .exit)) (r .end)) × (r .end ≤ length (now (out .entry))) ⌝ }
+{
+    if byte == b'\n' {
+        let end = line.card(out, at);
+        return Progress {
+            line: Line::new(),
+            end,
+        };
+    }
+    Progress {
+        line: line.push(byte),
+        end: at,
+    }
+}
+
+// What was taken of a piece: so many bytes.
+pub struct Fed {
+    pub taken: usize,
+    pub line: Line,
+    pub end: usize,
+}
+
+// Takes bytes of a piece until it ends, or until the buffer may have no room for another card.
+pub fn feed(piece: &[u8], unended: Line, out: &mut [u8], at: usize) -> Fed
+    requires { ⌜ at ≤ length (now out) ⌝ }
+    ensures { λ r. ⌜ FedBy (now (piece .entry)) unended (now (out .entry)) at r (now (out .exit)) ⌝ }
+{
+    let mut line = unended;
+    let mut end = at;
+    let mut taken = 0;
+    while taken < piece.len() && ROOM <= out.len() - end {
+        let progress = take_byte(line, piece[taken], out, end);
+        line = progress.line;
+        end = progress.end;
+        taken += 1;
+    }
+    Fed { taken, line, end }
+}
+
+// At the end of the input: a last line without its newline is not a line of the form asked for, whatever it holds.
+pub fn finish(line: Line, out: &mut [u8], at: usize) -> usize
+    requires { ⌜ at + 256 ≤ length (now out) ⌝ }
+    ensures { λ end. ⌜ ((seen : List ℕ) → Holding seen line → Ended seen (now (out .entry)) at (now (out .exit)) end) × (end ≤ length (now (out .entry))) ⌝ }
+{
+    if line.size == 0 {
+        return at;
+    }
+    word(out, at, b"unreadable\n")
+}
