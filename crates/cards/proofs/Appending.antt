@@ -1,12 +1,16 @@
 -- Laws of texts that are written one after the other.
 use mathlib.Core.Path.{_≡_, refl, sym, ap, subst, _∙_}
-use mathlib.Core.List.{List, [], _∷_, _++_, append-assoc, append-nil}
-use Prim.Native.Nat.{ℕ, suc, _+_, _-_, _≤_, _<_}
+use mathlib.Core.List.{List, [], _∷_, _++_, append-assoc}
+use Prim.Native.Nat.{ℕ, _+_, _≤_, _<_}
 use native.Mathlib.Numerals.{add-one}
 use native.Mathlib.Omega.{arith}
-use lib.ListN.{length, getD, set, take, drop, length-append, length-drop, take-append-drop, length-set}
+use lib.ListN.{length, getD, set, take, drop, length-append, length-drop, take-append-drop}
 use lib.Seq.{length-take-le, take-at, drop-append-add, drop-drop, set-split, take-suc, take-all}
 use Rattle.cards.specs.Texts.{Appended}
+
+-- one element more
+pub take-next : (l : List ℕ) (i : ℕ) → i < length l → take (i + 1) l ≡ take i l ++ (getD l i 0 ∷ [])
+take-next l i h = ap (λ (n : ℕ). take n l) (add-one i) ∙ take-suc l i 0 h
 
 -- a buffer keeps its length
 pub appended-length : {before : List ℕ} {at : ℕ} {text after : List ℕ} {end : ℕ} → Appended before at text after end → length after ≡ length before
@@ -61,7 +65,7 @@ pub appended-turn : {before out : List ℕ} {at : ℕ} (i : ℕ) (text : List �
     → Appended before at (take (i + 1) text) (set out (at + i) (getD text i 0)) (at + (i + 1))
 appended-turn {before} {out} {at} i text a h room =
     subst (λ (n : ℕ). Appended before at (take (i + 1) text) (set out (at + i) (getD text i 0)) n) (omega arith)
-    (appended-as (sym (take-suc text i 0 h) ∙ ap (λ (n : ℕ). take n text) (sym (add-one i))) (appended-then a (appended-byte (getD text i 0) (omega (arith, appended-length a)))))
+    (appended-as (sym (take-next text i h)) (appended-then a (appended-byte (getD text i 0) (omega (arith, appended-length a)))))
 
 pub appended-whole : {before out : List ℕ} {at : ℕ} (i : ℕ) (text : List ℕ) → Appended before at (take i text) out (at + i) → length text ≤ i → Appended before at text out (at + i)
 appended-whole {before} {out} {at} i text a h = appended-as (take-all i text h) a

@@ -1,28 +1,26 @@
 -- Laws of digits and of what they stand for.
 use mathlib.Core.Path.{_≡_, refl, sym, ap, subst, _∙_}
-use mathlib.Core.Logic.{_≢_}
 use mathlib.Core.Bool.{Bool, true, false}
 use mathlib.Core.List.{List, [], _∷_, _++_}
 use Prim.Native.Nat.{ℕ, zero, suc, _+_, _-_, _*_, _^_, _≤_, _<_}
 use native.Mathlib.Nat.{pow-zero, pow-succ', pow-le-pow-right, mul-le-mul-right}
-use native.Mathlib.Numerals.{add-one}
 use native.Mathlib.Omega.{arith}
-use lib.ListN.{length, getD, take, drop, drop-of-length-le}
-use lib.Seq.{take-suc, drop-cons, take-all, length-take-le}
+use lib.ListN.{length, getD, take, drop-of-length-le}
+use lib.Seq.{drop-cons, take-all, length-take-le}
 use Rattle.numbers.specs.Divisors.{Decides}
-use Rattle.cards.specs.Texts.{space, Digit, Digits, value, Number}
+use Rattle.cards.specs.Texts.{Digit, Digits, value}
 use Rattle.cards.specs.Fronts.{Stops, Run}
+use Rattle.cards.proofs.Appending.{take-next}
 
-abbrev one-if-false : Bool → ℕ
-one-if-false true = 0
-one-if-false false = 1
+pub yes-or-no : {b : Bool} → b ≡ true → b ≡ false → ⊥
+yes-or-no p q = let z : _≡_ {A = ℕ} 0 1 = cc in omega arith
 
 -- answers of yes and no
 pub decides-yes : {P : Type 0} → P → Decides P true
-decides-yes p = record { yes-only-if = λ _. p; no-only-if = λ e. absurd (let z : _≡_ {A = ℕ} 0 1 = ap one-if-false e in omega arith) }
+decides-yes p = record { yes-only-if = λ _. p; no-only-if = λ e. absurd (yes-or-no refl e) }
 
 pub decides-no : {P : Type 0} → ¬ P → Decides P false
-decides-no n = record { yes-only-if = λ e. absurd (let z : _≡_ {A = ℕ} 1 0 = ap one-if-false e in omega arith); no-only-if = λ _. n }
+decides-no n = record { yes-only-if = λ e. absurd (yes-or-no e refl); no-only-if = λ _. n }
 
 pub no-digit-low : {byte : ℕ} → byte < 48 → ¬ Digit byte
 no-digit-low h d = omega (arith, d .low)
@@ -30,7 +28,7 @@ no-digit-low h d = omega (arith, d .low)
 pub no-digit-high : {byte : ℕ} → 57 < byte → ¬ Digit byte
 no-digit-high h d = omega (arith, d .high)
 
-digits-then : (text : List ℕ) {byte : ℕ} → Digits text → Digit byte → Digits (text ++ (byte ∷ []))
+pub digits-then : (text : List ℕ) {byte : ℕ} → Digits text → Digit byte → Digits (text ++ (byte ∷ []))
 digits-then [] _ d = (d, tt)
 digits-then (b ∷ text) (h, more) d = (h, digits-then text more d)
 
@@ -46,11 +44,8 @@ digits-take (b ∷ text) (suc i) (d, more) = (d, digits-take text i more)
 
 -- ---- the run of digits at the front
 
-taken : (text : List ℕ) (i : ℕ) → i < length text → take (i + 1) text ≡ take i text ++ (getD text i 0 ∷ [])
-taken text i h = ap (λ (n : ℕ). take n text) (add-one i) ∙ take-suc text i 0 h
-
 pub run-turn : (text : List ℕ) (i : ℕ) → Digits (take i text) → i < length text → Digit (getD text i 0) → Digits (take (i + 1) text)
-run-turn text i d h here = subst Digits (sym (taken text i h)) (digits-then (take i text) d here)
+run-turn text i d h here = subst Digits (sym (take-next text i h)) (digits-then (take i text) d here)
 
 pub run-stops : (text : List ℕ) (i : ℕ) → Digits (take i text) → i < length text → ¬ Digit (getD text i 0) → Run text i
 run-stops text i d h here =
@@ -61,7 +56,7 @@ run-ends text i d h l = record { within = h; digits = d; stops = subst Stops (sy
 
 -- ---- the value
 
-value-then : (n : ℕ) (text : List ℕ) (byte : ℕ) → value n (text ++ (byte ∷ [])) ≡ 10 * value n text + (byte - 48)
+pub value-then : (n : ℕ) (text : List ℕ) (byte : ℕ) → value n (text ++ (byte ∷ [])) ≡ 10 * value n text + (byte - 48)
 value-then n [] byte = refl
 value-then n (b ∷ text) byte = value-then (10 * n + (b - 48)) text byte
 
@@ -73,7 +68,7 @@ value-below n (b ∷ text) (d, more) =
     omega (arith, ap (λ (p : ℕ). (n + 1) * p) (pow-succ' 10 (length text)))
 
 pub value-turn : (text : List ℕ) (i n : ℕ) → n ≡ value 0 (take i text) → i < length text → 10 * n + (getD text i 0 - 48) ≡ value 0 (take (i + 1) text)
-value-turn text i n e h = sym (ap (value 0) (taken text i h) ∙ value-then 0 (take i text) (getD text i 0) ∙ ap (λ (v : ℕ). 10 * v + (getD text i 0 - 48)) (sym e))
+value-turn text i n e h = sym (ap (value 0) (take-next text i h) ∙ value-then 0 (take i text) (getD text i 0) ∙ ap (λ (v : ℕ). 10 * v + (getD text i 0 - 48)) (sym e))
 
 pub value-small : (text : List ℕ) (i n : ℕ) → Digits text → i < length text → length text ≤ 5 → n ≡ value 0 (take i text) → n < 10000
 value-small text i n d h l e =

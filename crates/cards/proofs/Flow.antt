@@ -1,22 +1,19 @@
 -- Pieces of the input, one after the other.
-use mathlib.Core.Path.{_≡_, refl, sym, ap, subst, _∙_}
-use mathlib.Core.Logic.{_≢_, _⊎_, inl, inr}
-use mathlib.Core.List.{List, [], _∷_, _++_, append-assoc}
-use Prim.Native.Nat.{ℕ, suc, _+_, _-_, _≤_, _<_}
+use mathlib.Core.Path.{_≡_, refl, sym, ap₂, subst, _∙_}
+use mathlib.Core.Logic.{_≢_, inl, inr}
+use mathlib.Core.List.{List, [], _∷_, _++_, append-assoc, append-nil}
+use Prim.Native.Nat.{ℕ, _+_, _-_, _≤_, _<_}
 use native.Mathlib.Decide.{ℕ-discrete}
-use native.Mathlib.Numerals.{add-one}
 use native.Mathlib.Omega.{arith}
 use lib.ListN.{length, getD, take}
-use lib.Seq.{take-suc}
 use Rattle.cards.specs.declared.lines.Line.{Line}
-use Rattle.cards.specs.declared.streaming.Fed.{Fed}
 use Rattle.cards.specs.Texts.{newline, Appended}
 use Rattle.cards.specs.Cards.{unreadable-word, CardOf, CardAt}
 use Rattle.cards.specs.Lines.{Holding}
-use Rattle.cards.specs.Output.{ending, Output, Goes, Took, FedBy, Ended}
-use Rattle.cards.proofs.Appending.{appended-none, appended-then}
+use Rattle.cards.specs.Output.{ending, Output, Goes, Took, ByteTaken, Ended, FedBy}
+use Rattle.cards.proofs.Appending.{take-next, appended-none, appended-then}
 
-goes-then : (seen mid rest p q s t : List ℕ) → Goes seen p mid s → Goes mid q rest t → Goes seen (p ++ q) rest (s ++ t)
+pub goes-then : (seen mid rest p q s t : List ℕ) → Goes seen p mid s → Goes mid q rest t → Goes seen (p ++ q) rest (s ++ t)
 goes-then seen mid rest p q s t first second more out o = rw (append-assoc p q more, append-assoc s t out) (first (q ++ more) (t ++ out) (second more out o))
 
 -- ---- one byte
@@ -51,29 +48,25 @@ feeding-start h =
     }
 
 pub feeding-turn : {piece before out after : List ℕ} {at end taken end′ : ℕ} {unended line line′ : Line} → Feeding piece before at unended out line end taken
-    → taken < length piece → ((seen : List ℕ) → Holding seen line → Took seen (getD piece taken 0 ∷ []) line′ out end after end′)
-    → end′ ≤ length out → length after ≡ length out → Feeding piece before at unended after line′ end′ (taken + 1)
-feeding-turn {piece} {before} {out} {after} {at} {end} {taken} {end′} {unended} {line} {line′} g h step fits same =
+    → taken < length piece → ByteTaken line (getD piece taken 0) line′ out end after end′ → length after ≡ length out → Feeding piece before at unended after line′ end′ (taken + 1)
+feeding-turn {piece} {before} {out} {after} {at} {end} {taken} {end′} {unended} {line} {line′} g h step same =
     record {
       took = λ seen w. then seen (g .took seen w);
       within = omega arith;
       size = same ∙ g .size;
-      fits = omega (arith, g .size);
+      fits = omega (arith, step .fits, g .size);
       unmoved = λ z. absurd (omega arith);
     }
   where
-    further : take taken piece ++ (getD piece taken 0 ∷ []) ≡ take (taken + 1) piece
-    further = sym (ap (λ (n : ℕ). take n piece) (add-one taken) ∙ take-suc piece taken 0 h)
-
     then : (seen : List ℕ) → Took seen (take taken piece) line before at out end → Took seen (take (taken + 1) piece) line′ before at after end′
     then seen a =
-        let b = step (a .rest) (a .holds) in
+        let b = step .took (a .rest) (a .holds) in
         record {
           rest = b .rest;
           text = a .text ++ b .text;
           holds = b .holds;
           goes =
-              subst (λ (l : List ℕ). Goes seen l (b .rest) (a .text ++ b .text)) further
+              subst (λ (l : List ℕ). Goes seen l (b .rest) (a .text ++ b .text)) (sym (take-next piece taken h))
               (goes-then seen (a .rest) (b .rest) (take taken piece) (getD piece taken 0 ∷ []) (a .text) (b .text) (a .goes) (b .goes));
           written = appended-then (a .written) (b .written);
         }
@@ -106,3 +99,20 @@ moved {at} {end} {taken} size unmoved little room = pick (ℕ-discrete taken 0)
     pick : Dec (taken ≡ 0) → 1 ≤ taken
     pick (yes z) = absurd (omega (arith, unmoved z))
     pick (no z) = omega arith
+
+-- ---- the whole input
+
+-- the pieces, and then the end
+pub output-whole : (input rest text last : List ℕ) → Goes [] input rest text → Output rest [] last → Output [] input (text ++ last)
+output-whole input rest text last goes end = subst (λ (l : List ℕ). Output [] l (text ++ last)) (append-nil input) (goes [] last end)
+
+-- no second output fits, given that no second card does
+pub output-one : ((line a b : List ℕ) → CardOf line a → CardOf line b → a ≡ b) → (seen input : List ℕ) {a b : List ℕ} → Output seen input a → Output seen input b → a ≡ b
+output-one card-one seen [] p q = p ∙ sym q
+output-one card-one seen (byte ∷ input) (inl (e, card, rest, is, more, p)) (inl (e′, card′, rest′, is′, more′, q)) =
+    let c : card ≡ card′ = card-one seen card card′ is is′ in
+    let r : rest ≡ rest′ = output-one card-one [] input more more′ in
+    p ∙ ap₂ (λ (x y : List ℕ). x ++ y) c r ∙ sym q
+output-one card-one seen (byte ∷ input) (inl p) (inr q) = absurd (q .0 (p .0))
+output-one card-one seen (byte ∷ input) (inr p) (inl q) = absurd (p .0 (q .0))
+output-one card-one seen (byte ∷ input) (inr p) (inr q) = output-one card-one (seen ++ (byte ∷ [])) input (p .1) (q .1)

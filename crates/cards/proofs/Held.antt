@@ -1,6 +1,6 @@
 -- A line of which only the first 18 bytes are held has the same card.
-use mathlib.Core.Path.{_≡_, refl, sym, ap, subst, _∙_}
-use mathlib.Core.List.{List, [], _∷_, _++_, append-nil}
+use mathlib.Core.Path.{_≡_, sym, ap, subst, _∙_}
+use mathlib.Core.List.{List, [], _∷_, _++_}
 use Prim.Native.Nat.{ℕ, suc, _+_, _≤_, _<_}
 use native.Mathlib.Numerals.{add-one}
 use native.Mathlib.Decide.{decLt}
@@ -8,7 +8,9 @@ use native.Mathlib.Omega.{arith}
 use lib.ListN.{length, set, take, length-append}
 use lib.Seq.{take-all, length-take-le, take-append-le, take-suc-set}
 use Rattle.cards.specs.declared.lines.Line.{Line}
+use Rattle.cards.specs.declared.reading.Reading.{Reading}
 use Rattle.cards.specs.Texts.{space, Reads}
+use Rattle.cards.specs.Reading.{ReadAs}
 use Rattle.cards.specs.Cards.{CardOf, unreadable, refused, accepted, CardAt}
 use Rattle.cards.specs.Lines.{Holding}
 
@@ -35,6 +37,14 @@ reads-front seen {k} {f1} {f2} = front-whole (λ l. Reads l k f1 f2) seen (λ l 
 
 pub reads-whole : (seen : List ℕ) {k f1 f2 : ℕ} → Reads seen k f1 f2 → Reads (take 18 seen) k f1 f2
 reads-whole seen {k} {f1} {f2} = whole-front (λ l. Reads l k f1 f2) seen (λ l r. reads-short r)
+
+-- reading the bytes that are held answers as reading all of them
+pub read-front : (seen : List ℕ) {r : Reading} → ReadAs (take 18 seen) r → ReadAs seen r
+read-front seen a =
+    record {
+      readable = λ e. reads-front seen (a .readable e);
+      unreadable = λ e. ((λ k f1 f2 r. a .unreadable e .0 k f1 f2 (reads-whole seen r)), a .unreadable e .1);
+    }
 
 card-front : (seen : List ℕ) {text : List ℕ} → CardOf (take 18 seen) text → CardOf seen text
 card-front seen (unreadable none e) = unreadable (λ k f1 f2 r. none k f1 f2 (reads-whole seen r)) e

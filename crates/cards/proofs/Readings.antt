@@ -1,14 +1,13 @@
 -- A line reads in one way.
-use mathlib.Core.Path.{_≡_, refl, sym, ap, ap₂, subst, _∙_}
+use mathlib.Core.Path.{_≡_, refl, sym, ap, subst, _∙_}
 use mathlib.Core.Bool.{Bool, true, false}
 use mathlib.Core.List.{List, [], _∷_, _++_, append-nil}
-use Prim.Native.Nat.{ℕ, _≤_}
-use native.Mathlib.Omega.{arith}
-use lib.ListN.{length, drop}
+use Prim.Native.Nat.{ℕ}
 use Rattle.cards.specs.declared.reading.Reading.{Reading}
 use Rattle.cards.specs.Texts.{space, Reads}
 use Rattle.cards.specs.Fronts.{Front}
 use Rattle.cards.specs.Reading.{nothing-read, ReadAs}
+use Rattle.cards.proofs.Digiting.{yes-or-no}
 use Rattle.cards.proofs.Searching.{front-one, space-stops}
 
 -- the three numbers, each at the front of what is left
@@ -82,19 +81,12 @@ unreadable-third {line} {a} {b} p q none k f1 f2 r =
 
 -- ---- the answer
 
-abbrev one-if-readable : Bool → ℕ
-one-if-readable true = 1
-one-if-readable false = 0
-
-apart : (b : Bool) → b ≡ true → b ≡ false → ⊥
-apart b p q = let z : _≡_ {A = ℕ} 1 0 = ap one-if-readable (sym p ∙ q) in omega arith
-
 pub readable-as : {line : List ℕ} {r : Reading} → r .readable ≡ true → Reads line (r .k) (r .f1) (r .f2) → ReadAs line r
-readable-as {line} {r} e w = record { readable = λ _. w; unreadable = λ z. absurd (apart (r .readable) e z) }
+readable-as {line} {r} e w = record { readable = λ _. w; unreadable = λ z. absurd (yes-or-no e z) }
 
 pub unreadable-as : {line : List ℕ} {r : Reading} → r ≡ nothing-read → ((k f1 f2 : ℕ) → ¬ Reads line k f1 f2) → ReadAs line r
 unreadable-as {line} {r} e none =
-    record { readable = λ z. absurd (apart (r .readable) z (ap (λ (s : Reading). s .readable) e)); unreadable = λ _. (none, e) }
+    record { readable = λ z. absurd (yes-or-no z (ap (λ (s : Reading). s .readable) e)); unreadable = λ _. (none, e) }
 
 -- no second answer fits
 pub read-one : {line : List ℕ} {r s : Reading} → ReadAs line r → ReadAs line s → r ≡ s

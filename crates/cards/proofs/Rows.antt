@@ -1,16 +1,13 @@
 -- The parts of a card, one after the other.
 use mathlib.Core.Path.{_≡_, refl, sym, ap, subst, _∙_}
-use mathlib.Core.Logic.{_≢_}
 use mathlib.Core.List.{List, [], _∷_, _++_, append-assoc, append-nil}
 use Prim.Native.Nat.{ℕ, _+_, _*_, _≤_, _<_}
-use native.Mathlib.Numerals.{add-one}
 use native.Mathlib.Omega.{arith}
 use lib.ListN.{length, getD, take}
-use lib.Seq.{take-suc, take-all}
 use Rattle.cards.specs.declared.composing.Facts.{Facts}
 use Rattle.cards.specs.Texts.{space, newline, decimal, fields, Appended}
 use Rattle.cards.specs.Cards.{row, told}
-use Rattle.cards.proofs.Appending.{appended-none, appended-then, appended-as}
+use Rattle.cards.proofs.Appending.{take-next, appended-none, appended-then, appended-as}
 
 fields-then : (a b : List ℕ) → fields (a ++ b) ≡ fields a ++ fields b
 fields-then [] b = refl
@@ -56,7 +53,7 @@ pub listing-turn : {a before out after : List ℕ} {at end i end′ : ℕ} → L
     → Appended out end (space ∷ decimal (getD a i 0)) after end′ → end′ ≤ end + 11 → Listing a before after at end′ (i + 1)
 listing-turn {a} {before} {out} {after} {at} {end} {i} {end′} l h w s =
     record {
-      written = subst (λ (numbers : List ℕ). Appended before at (fields numbers) after end′) (sym (ap (λ (n : ℕ). take n a) (add-one i) ∙ take-suc a i 0 h)) (appended-field (take i a) (getD a i 0) (l .written) w);
+      written = subst (λ (numbers : List ℕ). Appended before at (fields numbers) after end′) (sym (take-next a i h)) (appended-field (take i a) (getD a i 0) (l .written) w);
       short = omega (arith, l .short);
     }
 

@@ -8,7 +8,7 @@ use native.Mathlib.Decide.{ℕ-discrete}
 use native.Mathlib.Omega.{arith}
 use lib.ListN.{length, getD, take, drop, take-append-drop, drop-of-length-le, length-drop}
 use lib.Seq.{drop-cons, length-take-le}
-use Rattle.cards.specs.Texts.{space, Digit, Digits, value, Number}
+use Rattle.cards.specs.Texts.{space, Digits, value, Number}
 use Rattle.cards.specs.Fronts.{Stops, Run, Front, Search, Anything, Spaced, Nothing}
 use Rattle.cards.proofs.Digiting.{no-digit-low}
 
@@ -22,6 +22,9 @@ digits-one (c ∷ a) (d ∷ b) {x} {y} (_, da) (_, db) sx sy e =
     let t : a ++ x ≡ b ++ y = cc in
     let r : (a ≡ b) × (x ≡ y) = digits-one a b da db sx sy t in
     ((cc), r .1)
+
+pub number-one : {text : List ℕ} {n m : ℕ} → Number text n → Number text m → n ≡ m
+number-one p q = p .stands-for ∙ sym (q .stands-for)
 
 pub front-one : {text : List ℕ} {n m : ℕ} {rest other : List ℕ} → Front text n rest → Front text m other → (n ≡ m) × (rest ≡ other)
 front-one p q =

@@ -24,8 +24,8 @@ pub record Front (text : List ℕ) (n : ℕ) (rest : List ℕ) : Type 0 where
   pub split : text ≡ front ++ rest
   pub stops : Stops rest
 
--- A search for a number at the front of a text with such a rest: past 0 it was found, with the rest that is named; 0 says that no
--- number has such a rest.
+-- A search for a number at the front of a text, with such a rest. Where it got past something, the number was found, with the rest
+-- that is named; 0 says that no number stands there with such a rest.
 pub record Search (Such : List ℕ → Type 0) (text : List ℕ) (past n : ℕ) (rest : List ℕ) : Type 0 where
   pub within : past ≤ length text
   pub found : past ≢ 0 → Front text n rest × Such rest

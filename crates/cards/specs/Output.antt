@@ -2,7 +2,7 @@
 use mathlib.Core.Path.{_≡_}
 use mathlib.Core.Logic.{_≢_, _⊎_}
 use mathlib.Core.List.{List, [], _∷_, _++_}
-use Prim.Native.Nat.{ℕ, _+_, _≤_, _<_}
+use Prim.Native.Nat.{ℕ, _+_, _≤_}
 use lib.ListN.{length, take}
 use Rattle.cards.specs.declared.lines.Line.{Line}
 use Rattle.cards.specs.declared.streaming.Fed.{Fed}
@@ -35,9 +35,14 @@ pub record Took (seen piece : List ℕ) (line : Line) (before : List ℕ) (at : 
   pub goes : Goes seen piece rest text
   pub written : Appended before at text after end
 
--- So much of a piece was taken: all of it, or at least something, unless there was little room to begin with.
-pub record FedBy (piece : List ℕ) (line : Line) (before : List ℕ) (at : ℕ) (r : Fed) (after : List ℕ) : Type 0 where
-  pub took : (seen : List ℕ) → Holding seen line → Took seen (take (r .taken) piece) (r .line) before at after (r .end)
+-- A byte was taken after a line.
+pub record ByteTaken (unended : Line) (byte : ℕ) (line : Line) (before : List ℕ) (at : ℕ) (after : List ℕ) (end : ℕ) : Type 0 where
+  pub took : (seen : List ℕ) → Holding seen unended → Took seen (byte ∷ []) line before at after end
+  pub fits : end ≤ length before
+
+-- So much of a piece was taken; something of it, if there was something and room for a card.
+pub record FedBy (piece : List ℕ) (unended : Line) (before : List ℕ) (at : ℕ) (r : Fed) (after : List ℕ) : Type 0 where
+  pub took : (seen : List ℕ) → Holding seen unended → Took seen (take (r .taken) piece) (r .line) before at after (r .end)
   pub within : r .taken ≤ length piece
   pub fits : r .end ≤ length before
   pub moves : at + 256 ≤ length before → 1 ≤ length piece → 1 ≤ r .taken
@@ -47,3 +52,8 @@ pub record Ended (seen before : List ℕ) (at : ℕ) (after : List ℕ) (end : �
   pub text : List ℕ
   pub last : Output seen [] text
   pub written : Appended before at text after end
+
+-- The input ended after a line.
+pub record Finished (unended : Line) (before : List ℕ) (at : ℕ) (after : List ℕ) (end : ℕ) : Type 0 where
+  pub ended : (seen : List ℕ) → Holding seen unended → Ended seen before at after end
+  pub fits : end ≤ length before

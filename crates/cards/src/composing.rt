@@ -5,7 +5,6 @@ use crate::writing::field;
 use crate::writing::number;
 use crate::writing::word;
 use triples::Triple;
-ghost use mathlib.Core.Logic.{_≢_};
 ghost use mathlib.Core.List.{List, [], _∷_, _++_};
 ghost use Prim.Native.Nat.{ℕ, _+_, _≤_};
 ghost use lib.ListN.{length, take};

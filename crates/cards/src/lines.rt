@@ -1,13 +1,14 @@
-// A line that arrives in pieces. It is kept only so far as it matters: a readable line has at most 17 bytes, so one of 18 is
-// unreadable whatever comes after them.
+// A line that arrives in pieces. A readable line has at most 17 bytes, so one of 18 is unreadable whatever
+// comes after them, and no more are kept.
 use crate::composing::card;
 ghost use mathlib.Core.Path.{_≡_};
 ghost use mathlib.Core.List.{List, [], _∷_, _++_};
 ghost use Prim.Native.Nat.{ℕ, _+_, _≤_, _<_};
 ghost use lib.ListN.{length, set, take};
 ghost use Rattle.cards.specs.Cards.{CardAt};
-ghost use Rattle.cards.specs.Lines.{Holding};
+ghost use Rattle.cards.specs.Lines.{Holding, HeldCard};
 
+// One more than a readable line has.
 const MOST: usize = 18;
 
 // The bytes of a line that has not ended yet. One made by hand may hold anything.
@@ -25,6 +26,7 @@ fn at_most(size: usize) -> usize
     size
 }
 
+// An array by itself, unlike a field, has a length that the proofs know.
 fn stored(bytes: [u8; 18], at: usize, byte: u8) -> [u8; 18]
     requires { ⌜ at < 18 ⌝ }
     ensures { λ r. ⌜ (r ≡ set bytes at byte) × (at < length bytes) ⌝ }
@@ -69,7 +71,7 @@ impl Line {
     // Writes the card of the line, and answers where it ends.
     pub fn card(self, out: &mut [u8], at: usize) -> usize
         requires { ⌜ at + 256 ≤ length (now out) ⌝ }
-        ensures { λ end. ⌜ ((seen : List ℕ) → Holding seen self → CardAt seen (now (out .entry)) at (now (out .exit)) end) × (end ≤ length (now (out .entry))) ⌝ }
+        ensures { λ end. ⌜ HeldCard self (now (out .entry)) at (now (out .exit)) end ⌝ }
     {
         let bytes = self.bytes;
         card_of(bytes, at_most(self.size), out, at)

@@ -1,4 +1,4 @@
-// Three numbers from a line. None trusts the line: it may hold any bytes, and any number of them.
+// Three numbers from a line, which may hold any bytes, and any number of them.
 ghost use mathlib.Core.Path.{_≡_};
 ghost use mathlib.Core.List.{_∷_, []};
 ghost use Prim.Native.Nat.{_≤_};

@@ -1,24 +1,22 @@
 // Cards for an input that arrives in pieces of any size, into a buffer that is emptied now and then.
 use crate::lines::Line;
 use crate::writing::word;
-ghost use mathlib.Core.List.{List, [], _∷_};
-ghost use Prim.Native.Nat.{ℕ, _+_, _≤_, _<_};
-ghost use lib.ListN.{length, take};
-ghost use Rattle.cards.specs.Lines.{Holding};
-ghost use Rattle.cards.specs.Output.{Took, FedBy, Ended};
+ghost use Prim.Native.Nat.{_+_, _≤_, _<_};
+ghost use lib.ListN.{length};
+ghost use Rattle.cards.specs.Output.{ByteTaken, FedBy, Finished};
 
 // Enough for any card.
 pub const ROOM: usize = 256;
 
 // The line that has not ended, and where its cards end in the buffer.
-pub struct Progress {
-    pub line: Line,
-    pub end: usize,
+struct Progress {
+    line: Line,
+    end: usize,
 }
 
 fn take_byte(line: Line, byte: u8, out: &mut [u8], at: usize) -> Progress
     requires { ⌜ at + 256 ≤ length (now out) ⌝ }
-    ensures { λ r. ⌜ ((seen : List ℕ) → Holding seen line → Took seen (byte ∷ []) (r .line) (now (out .entry)) at (now (out .exit)) (r .end)) × (r .end ≤ length (now (out .entry))) ⌝ }
+    ensures { λ r. ⌜ ByteTaken line byte (r .line) (now (out .entry)) at (now (out .exit)) (r .end) ⌝ }
 {
     if byte == b'\n' {
         let end = line.card(out, at);
@@ -33,7 +31,7 @@ fn take_byte(line: Line, byte: u8, out: &mut [u8], at: usize) -> Progress
     }
 }
 
-// What was taken of a piece: so many bytes.
+// How many bytes of a piece were taken, the line that has not ended, and where the cards end.
 pub struct Fed {
     pub taken: usize,
     pub line: Line,
@@ -60,7 +58,7 @@ pub fn feed(piece: &[u8], unended: Line, out: &mut [u8], at: usize) -> Fed
 // At the end of the input: a last line without its newline is not a line of the form asked for, whatever it holds.
 pub fn finish(line: Line, out: &mut [u8], at: usize) -> usize
     requires { ⌜ at + 256 ≤ length (now out) ⌝ }
-    ensures { λ end. ⌜ ((seen : List ℕ) → Holding seen line → Ended seen (now (out .entry)) at (now (out .exit)) end) × (end ≤ length (now (out .entry))) ⌝ }
+    ensures { λ end. ⌜ Finished line (now (out .entry)) at (now (out .exit)) end ⌝ }
 {
     if line.size == 0 {
         return at;

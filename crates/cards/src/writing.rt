@@ -31,10 +31,12 @@ fn digits(out: &mut [u8], at: usize, n: u32) -> usize
 {
     let last = 48 + (n % 10) as u8;
     if n < 10 {
-        return byte(out, at, last);
+        out[at] = last;
+        return at + 1;
     }
     let end = digits(out, at, n / 10);
-    byte(out, end, last)
+    out[end] = last;
+    end + 1
 }
 
 // A number takes at most ten bytes.

@@ -5,9 +5,6 @@ use lib.Seq.{length-take-le}
 use borrow.Author.Needs.{needs}
 use Rattle.card.proofs.finish.Statement.{statement}
 use Rattle.card.proofs.finish.Tie as tie
-use Rattle.card.proofs.make_room.Reads as make-room-reads
-use Rattle.cards.proofs.finish.Reads as finish-reads
-use Rattle.io.proofs.write_all.Reads as write-all-reads
 
 make-room-requires : tie.Need-make-room-requires
 make-room-requires c κs = search needs

@@ -5,7 +5,6 @@ use lib.Seq.{length-take-le}
 use borrow.Author.Needs.{needs}
 use Rattle.card.proofs.make_room.Statement.{statement}
 use Rattle.card.proofs.make_room.Tie as tie
-use Rattle.io.proofs.write_all.Reads as write-all-reads
 
 sub-if1 : tie.Need-sub-if1
 sub-if1 c = search needs

@@ -5,11 +5,6 @@ use lib.ListN.{length}
 use borrow.Author.Needs.{needs}
 use Rattle.card.proofs.run.Statement.{statement}
 use Rattle.card.proofs.run.Tie as tie
-use Rattle.card.proofs.finish.Reads as finish-reads
-use Rattle.card.proofs.take.Reads as take-reads
-use Rattle.cards.proofs.lines.Line.new.Reads as new-reads
-use Rattle.io.proofs.count.Reads as count-reads
-use Rattle.libc.proofs.read.Reads as read-reads
 
 abbrev Inv-loop : tie.InvT-loop
 Inv-loop piece₀ out₀ line₀ end₀ turns₀ piece out line end turns = (end ≤ length out₀) × (length out ≡ length out₀) × (length piece ≡ length piece₀)

@@ -6,8 +6,6 @@ use lib.ListN.{length}
 use borrow.Author.Needs.{needs}
 use Rattle.card.proofs.take.Statement.{statement}
 use Rattle.card.proofs.take.Tie as tie
-use Rattle.card.proofs.make_room.Reads as make-room-reads
-use Rattle.cards.proofs.feed.Reads as feed-reads
 
 abbrev Inv-loop : tie.InvT-loop
 Inv-loop piece out₀ at line₀ end₀ done₀ out line end done = (end ≤ length out₀) × (length out ≡ length out₀) × (done ≤ length piece)

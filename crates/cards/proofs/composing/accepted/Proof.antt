@@ -4,10 +4,6 @@ use Rattle.cards.proofs.Rows.{appended-row}
 use borrow.Author.Needs.{needs}
 use Rattle.cards.proofs.composing.accepted.Statement.{statement}
 use Rattle.cards.proofs.composing.accepted.Tie as tie
-use Rattle.cards.proofs.composing.begin.Reads as begin-reads
-use Rattle.cards.proofs.composing.numbers.Reads as numbers-reads
-use Rattle.cards.proofs.writing.byte.Reads as byte-reads
-use Rattle.cards.proofs.writing.word.Reads as word-reads
 
 begin-requires : tie.Need-begin-requires
 begin-requires c κs = search needs

@@ -4,8 +4,6 @@ use Rattle.cards.proofs.Rows.{appended-begin}
 use borrow.Author.Needs.{needs}
 use Rattle.cards.proofs.composing.begin.Statement.{statement}
 use Rattle.cards.proofs.composing.begin.Tie as tie
-use Rattle.cards.proofs.writing.field.Reads as field-reads
-use Rattle.cards.proofs.writing.number.Reads as number-reads
 
 number-requires : tie.Need-number-requires
 number-requires c κs = search needs

@@ -3,9 +3,6 @@ use Rattle.cards.proofs.Telling.{card-unreadable}
 use borrow.Author.Needs.{needs}
 use Rattle.cards.proofs.composing.card.Statement.{statement}
 use Rattle.cards.proofs.composing.card.Tie as tie
-use Rattle.cards.proofs.composing.of_triple.Reads as of-triple-reads
-use Rattle.cards.proofs.reading.read.Reads as read-reads
-use Rattle.cards.proofs.writing.word.Reads as word-reads
 
 read-requires : tie.Need-read-requires
 read-requires c κs = search needs

@@ -6,7 +6,6 @@ use Rattle.cards.proofs.Rows.{Listing, listing-start, listing-turn, lis
 use borrow.Author.Needs.{needs}
 use Rattle.cards.proofs.composing.coefficients.Statement.{statement}
 use Rattle.cards.proofs.composing.coefficients.Tie as tie
-use Rattle.cards.proofs.writing.field.Reads as field-reads
 
 abbrev Inv-loop : tie.InvT-loop
 Inv-loop out₀ at degree a end₀ i₀ out end i = Listing a out₀ out at end i × (i ≤ degree)

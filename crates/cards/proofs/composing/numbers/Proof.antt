@@ -4,8 +4,6 @@ use Rattle.cards.proofs.Rows.{appended-told}
 use borrow.Author.Needs.{needs}
 use Rattle.cards.proofs.composing.numbers.Statement.{statement}
 use Rattle.cards.proofs.composing.numbers.Tie as tie
-use Rattle.cards.proofs.composing.coefficients.Reads as coefficients-reads
-use Rattle.cards.proofs.writing.field.Reads as field-reads
 
 field-requires : tie.Need-field-requires
 field-requires c κs = search needs

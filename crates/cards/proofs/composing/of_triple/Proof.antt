@@ -4,10 +4,6 @@ use Rattle.cards.proofs.Telling.{card-refused, card-accepted, acceptanc
 use borrow.Author.Needs.{needs}
 use Rattle.cards.proofs.composing.of_triple.Statement.{statement}
 use Rattle.cards.proofs.composing.of_triple.Tie as tie
-use Rattle.cards.proofs.composing.accepted.Reads as accepted-reads
-use Rattle.cards.proofs.composing.facts_of.Reads as facts-of-reads
-use Rattle.cards.proofs.composing.refused.Reads as refused-reads
-use Rattle.qpp.proofs.accept.Reads as accept-reads
 
 accept-requires : tie.Need-accept-requires
 accept-requires c κs = search needs

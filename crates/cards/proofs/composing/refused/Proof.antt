@@ -1,16 +1,11 @@
 -- `refused` meets its contract.
 use mathlib.Core.List.{[], _∷_}
-use native.Mathlib.Omega.{arith}
 use Rattle.cards.specs.Cards.{refused-word}
 use Rattle.cards.proofs.Appending.{appended-as}
 use Rattle.cards.proofs.Rows.{fields-one, appended-row}
 use borrow.Author.Needs.{needs}
 use Rattle.cards.proofs.composing.refused.Statement.{statement}
 use Rattle.cards.proofs.composing.refused.Tie as tie
-use Rattle.cards.proofs.composing.begin.Reads as begin-reads
-use Rattle.cards.proofs.writing.byte.Reads as byte-reads
-use Rattle.cards.proofs.writing.field.Reads as field-reads
-use Rattle.cards.proofs.writing.word.Reads as word-reads
 
 begin-requires : tie.Need-begin-requires
 begin-requires c κs = search needs

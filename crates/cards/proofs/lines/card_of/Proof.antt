@@ -5,7 +5,6 @@ use lib.Seq.{length-take-le}
 use borrow.Author.Needs.{needs}
 use Rattle.cards.proofs.lines.card_of.Statement.{statement}
 use Rattle.cards.proofs.lines.card_of.Tie as tie
-use Rattle.cards.proofs.composing.card.Reads as card-reads
 
 array-share-prefix-bytes : tie.Need-array-share-prefix-bytes
 array-share-prefix-bytes c = search needs

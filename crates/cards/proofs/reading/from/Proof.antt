@@ -17,7 +17,10 @@ part-result-end : tie.Need-part-result-end
 part-result-end c = search needs
 
 returns : tie.Need-returns
-returns c = take-all (length (c .before .args .text .now) - c .before .args .at) (drop (c .before .args .at) (c .before .args .text .now)) (omega (arith, length-drop (c .before .args .at) (c .before .args .text .now)))
+returns c =
+    let text = c .before .args .text .now in
+    let at = c .before .args .at in
+    take-all (length text - at) (drop at text) (omega (arith, length-drop at text))
 
 pub from-spec : {M : Type 1} → statement M
 from-spec = tie.close (tie.spec sub-result part-result-start part-result-end returns)

@@ -6,9 +6,6 @@ use Rattle.cards.proofs.Searching.{no-number, run-front, search-none, s
 use borrow.Author.Needs.{needs}
 use Rattle.cards.proofs.reading.number.Statement.{statement}
 use Rattle.cards.proofs.reading.number.Tie as tie
-use Rattle.cards.proofs.reading.missing.Reads as missing-reads
-use Rattle.cards.proofs.reading.run.Reads as run-reads
-use Rattle.cards.proofs.reading.value.Reads as value-reads
 
 run-requires : tie.Need-run-requires
 run-requires c κs = search needs

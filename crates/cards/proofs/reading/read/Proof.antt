@@ -6,10 +6,6 @@ use Rattle.cards.proofs.Readings.{reads, unreadable-first, unreadable-s
 use borrow.Author.Needs.{needs}
 use Rattle.cards.proofs.reading.read.Statement.{statement}
 use Rattle.cards.proofs.reading.read.Tie as tie
-use Rattle.cards.proofs.reading.from.Reads as from-reads
-use Rattle.cards.proofs.reading.spaced.Reads as spaced-reads
-use Rattle.cards.proofs.reading.unreadable.Reads as unreadable-reads
-use Rattle.cards.proofs.reading.whole.Reads as whole-reads
 
 spaced-requires : tie.Need-spaced-requires
 spaced-requires c κs = search needs

@@ -8,7 +8,6 @@ use Rattle.cards.proofs.Digiting.{run-turn, run-stops, run-ends}
 use borrow.Author.Needs.{needs}
 use Rattle.cards.proofs.reading.run.Statement.{statement}
 use Rattle.cards.proofs.reading.run.Tie as tie
-use Rattle.cards.proofs.reading.is_digit.Reads as is-digit-reads
 
 abbrev Inv-loop : tie.InvT-loop
 Inv-loop text end₀ end = (end ≤ length text) × Digits (take end text)

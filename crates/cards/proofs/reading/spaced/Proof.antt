@@ -6,8 +6,6 @@ use Rattle.cards.proofs.Searching.{search-none, search-found, none-such
 use borrow.Author.Needs.{needs}
 use Rattle.cards.proofs.reading.spaced.Statement.{statement}
 use Rattle.cards.proofs.reading.spaced.Tie as tie
-use Rattle.cards.proofs.reading.missing.Reads as missing-reads
-use Rattle.cards.proofs.reading.number.Reads as number-reads
 
 number-requires : tie.Need-number-requires
 number-requires c κs = search needs

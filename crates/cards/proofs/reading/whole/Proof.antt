@@ -3,8 +3,6 @@ use Rattle.cards.proofs.Searching.{search-none, whole-found, whole-none
 use borrow.Author.Needs.{needs}
 use Rattle.cards.proofs.reading.whole.Statement.{statement}
 use Rattle.cards.proofs.reading.whole.Tie as tie
-use Rattle.cards.proofs.reading.missing.Reads as missing-reads
-use Rattle.cards.proofs.reading.number.Reads as number-reads
 
 number-requires : tie.Need-number-requires
 number-requires c κs = search needs

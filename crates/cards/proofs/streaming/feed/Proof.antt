@@ -7,7 +7,6 @@ use Rattle.cards.proofs.Flow.{Feeding, feeding-start, feeding-turn, fee
 use borrow.Author.Needs.{needs}
 use Rattle.cards.proofs.streaming.feed.Statement.{statement}
 use Rattle.cards.proofs.streaming.feed.Tie as tie
-use Rattle.cards.proofs.streaming.take_byte.Reads as take-byte-reads
 
 abbrev Inv-loop : tie.InvT-loop
 Inv-loop piece out₀ at line₀ end₀ taken₀ out line end taken = Feeding piece out₀ at line₀ out line end taken
@@ -39,7 +38,7 @@ loop-again : tie.Need-loop-again Inv-loop μ-loop
 loop-again c =
     let b = c .before .before .before in
     let l = b .before .before .before .before .before in
-    feeding-turn (l .loop .inv) (omega arith) (b .take-byte .ensures .0) (b .take-byte .ensures .1) (b .take-byte .kept .1 .1 .0)
+    feeding-turn (l .loop .inv) (omega arith) (b .take-byte .ensures) (b .take-byte .kept .1 .1 .0)
 
 same-length : tie.Need-same-length Inv-loop μ-loop
 same-length c = c .before .before .loop .inv .size

@@ -3,8 +3,6 @@ use Rattle.cards.proofs.Held.{holding-card}
 use borrow.Author.Needs.{needs}
 use Rattle.cards.proofs.lines.Line.card.Statement.{statement}
 use Rattle.cards.proofs.lines.Line.card.Tie as tie
-use Rattle.cards.proofs.lines.at_most.Reads as at-most-reads
-use Rattle.cards.proofs.lines.card_of.Reads as card-of-reads
 
 at-most-requires : tie.Need-at-most-requires
 at-most-requires c κs = search needs
@@ -19,7 +17,7 @@ returns : tie.Need-returns
 returns c =
     let w = c .before .before in
     let m = w .before .before in
-    ((λ seen h. holding-card h (m .at-most .ensures .1) (w .card-of .ensures)), w .card-of .ensures .written .fits)
+    record { card = λ seen h. holding-card h (m .at-most .ensures .1) (w .card-of .ensures); fits = w .card-of .ensures .written .fits }
 
 pub card-spec : {M : Type 1} → statement M
 card-spec = tie.close (tie.spec at-most-requires card-of-requires same-length returns)

@@ -5,7 +5,6 @@ use Rattle.cards.proofs.Held.{holding-full, holding-more}
 use borrow.Author.Needs.{needs}
 use Rattle.cards.proofs.lines.Line.push.Statement.{statement}
 use Rattle.cards.proofs.lines.Line.push.Tie as tie
-use Rattle.cards.proofs.lines.stored.Reads as stored-reads
 
 returns : tie.Need-returns
 returns c = λ seen h. holding-full _ h (omega arith)
