@@ -11,6 +11,7 @@ use Rattle.cards.specs.Texts.{newline, Appended}
 use Rattle.cards.specs.Cards.{unreadable-word, CardOf, CardAt}
 use Rattle.cards.specs.Lines.{Holding}
 use Rattle.cards.specs.Output.{ending, Output, Goes, Took, ByteTaken, Ended, FedBy}
+use Rattle.cards.proofs.Telling.{card-one}
 use Rattle.cards.proofs.Appending.{take-next, appended-none, appended-then}
 
 pub goes-then : (seen mid rest p q s t : List ℕ) → Goes seen p mid s → Goes mid q rest t → Goes seen (p ++ q) rest (s ++ t)
@@ -106,13 +107,13 @@ moved {at} {end} {taken} size unmoved little room = pick (ℕ-discrete taken 0)
 pub output-whole : (input rest text last : List ℕ) → Goes [] input rest text → Output rest [] last → Output [] input (text ++ last)
 output-whole input rest text last goes end = subst (λ (l : List ℕ). Output [] l (text ++ last)) (append-nil input) (goes [] last end)
 
--- no second output fits, given that no second card does
-pub output-one : ((line a b : List ℕ) → CardOf line a → CardOf line b → a ≡ b) → (seen input : List ℕ) {a b : List ℕ} → Output seen input a → Output seen input b → a ≡ b
-output-one card-one seen [] p q = p ∙ sym q
-output-one card-one seen (byte ∷ input) (inl (e, card, rest, is, more, p)) (inl (e′, card′, rest′, is′, more′, q)) =
-    let c : card ≡ card′ = card-one seen card card′ is is′ in
-    let r : rest ≡ rest′ = output-one card-one [] input more more′ in
+-- no second output fits
+pub output-one : (seen input : List ℕ) {a b : List ℕ} → Output seen input a → Output seen input b → a ≡ b
+output-one seen [] p q = p ∙ sym q
+output-one seen (byte ∷ input) (inl (e, card, rest, is, more, p)) (inl (e′, card′, rest′, is′, more′, q)) =
+    let c : card ≡ card′ = card-one is is′ in
+    let r : rest ≡ rest′ = output-one [] input more more′ in
     p ∙ ap₂ (λ (x y : List ℕ). x ++ y) c r ∙ sym q
-output-one card-one seen (byte ∷ input) (inl p) (inr q) = absurd (q .0 (p .0))
-output-one card-one seen (byte ∷ input) (inr p) (inl q) = absurd (p .0 (q .0))
-output-one card-one seen (byte ∷ input) (inr p) (inr q) = output-one card-one (seen ++ (byte ∷ [])) input (p .1) (q .1)
+output-one seen (byte ∷ input) (inl p) (inr q) = absurd (q .0 (p .0))
+output-one seen (byte ∷ input) (inr p) (inl q) = absurd (p .0 (q .0))
+output-one seen (byte ∷ input) (inr p) (inr q) = output-one (seen ++ (byte ∷ [])) input (p .1) (q .1)

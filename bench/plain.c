@@ -1,0 +1,327 @@
+#include "plain.h"
+#include <stdbool.h>
+#include <string.h>
+
+struct pair {
+    uint32_t f1, f2;
+};
+
+/* In 64 bits: f2*x*x reaches nearly 2 to the 39th. */
+static inline uint32_t place(uint32_t k, uint32_t f1, uint32_t f2, uint32_t x) {
+    return (uint32_t)((f1 + (uint64_t)f2 * x) * x % k);
+}
+
+static inline struct pair odd_form(uint32_t k, uint32_t f1, uint32_t f2) {
+    if ((k | f1) & 1)
+        return (struct pair){f1, f2};
+    uint32_t half = k / 2;
+    return (struct pair){(f1 + half) % k, (f2 + half) % k};
+}
+
+static inline uint32_t gcd(uint32_t a, uint32_t b) {
+    while (b != 0) {
+        uint32_t rest = a % b;
+        a = b;
+        b = rest;
+    }
+    return a;
+}
+
+static inline uint32_t range(uint32_t k, uint32_t f1, uint32_t f2) {
+    if (k < 2 || k > 8192)
+        return QPP_NO_LENGTH;
+    if (f1 >= k || f2 >= k)
+        return QPP_NO_COEFFICIENT;
+    return QPP_DONE;
+}
+
+/* By one gcd and four squares, as the library does it. */
+static inline uint32_t judge(uint32_t k, uint32_t f1, uint32_t f2) {
+    uint32_t number = range(k, f1, f2);
+    if (number != QPP_DONE)
+        return number;
+    struct pair odd = odd_form(k, f1, f2);
+    if (gcd(odd.f1, k) != 1)
+        return QPP_NO_SHUFFLE;
+    uint32_t f = odd.f2;
+    for (int i = 0; i < 4; i++)
+        f = f * f % k;
+    return f == 0 ? QPP_DONE : QPP_NO_SHUFFLE;
+}
+
+uint32_t plain_accept(uint32_t k, uint32_t f1, uint32_t f2) { return judge(k, f1, f2); }
+
+uint32_t plain_accept_marking(uint32_t k, uint32_t f1, uint32_t f2) {
+    bool met[8192];
+    uint32_t number = range(k, f1, f2);
+    if (number != QPP_DONE)
+        return number;
+    memset(met, 0, k);
+    for (uint32_t x = 0; x < k; x++) {
+        uint32_t y = place(k, f1, f2, x);
+        if (met[y])
+            return QPP_NO_SHUFFLE;
+        met[y] = true;
+    }
+    return QPP_DONE;
+}
+
+struct qpp_value plain_address(uint32_t k, uint32_t f1, uint32_t f2, uint32_t x) {
+    uint32_t number = judge(k, f1, f2);
+    if (number == QPP_DONE && x >= k)
+        number = QPP_NO_POSITION;
+    if (number != QPP_DONE)
+        return (struct qpp_value){number, 0};
+    return (struct qpp_value){QPP_DONE, place(k, f1, f2, x)};
+}
+
+static inline uint32_t unit(uint32_t k, uint32_t a) {
+    uint32_t upper = k, upper_by = 0, lower = a, lower_by = 1;
+    while (lower != 0) {
+        uint32_t quotient = upper / lower, rest = upper % lower;
+        uint32_t rest_by = (upper_by + quotient * (k - lower_by)) % k;
+        upper = lower;
+        upper_by = lower_by;
+        lower = rest;
+        lower_by = rest_by;
+    }
+    return upper_by;
+}
+
+struct qpp_value plain_reciprocal(uint32_t k, uint32_t f1, uint32_t f2) {
+    uint32_t number = judge(k, f1, f2);
+    if (number != QPP_DONE)
+        return (struct qpp_value){number, 0};
+    return (struct qpp_value){QPP_DONE, unit(k, odd_form(k, f1, f2).f1)};
+}
+
+static inline void fill(uint32_t k, uint32_t f1, uint32_t f2, uint16_t *list, uint32_t n) {
+    uint32_t value = 0, rise = (f1 + f2) % k, twice = 2 * f2 % k;
+    for (uint32_t x = 0; x < n; x++) {
+        list[x] = (uint16_t)value;
+        value += rise;
+        value -= value < k ? 0 : k;
+        rise += twice;
+        rise -= rise < k ? 0 : k;
+    }
+}
+
+uint32_t plain_addresses(uint32_t k, uint32_t f1, uint32_t f2, uint16_t *list, size_t n) {
+    uint32_t number = judge(k, f1, f2);
+    if (number != QPP_DONE)
+        return number;
+    if (n < k)
+        return QPP_NO_LIST;
+    fill(k, f1, f2, list, k);
+    return QPP_DONE;
+}
+
+struct qpp_arp plain_arp(uint32_t k, uint32_t f1, uint32_t f2, uint16_t *list, size_t n) {
+    uint32_t number = judge(k, f1, f2);
+    if (number != QPP_DONE)
+        return (struct qpp_arp){number, 0, 0};
+    struct pair odd = odd_form(k, f1, f2);
+    uint32_t q = k / gcd(k, 2 * odd.f2);
+    if ((uint64_t)odd.f2 * q * q % k != 0)
+        q *= 2;
+    if (n < q)
+        return (struct qpp_arp){QPP_NO_LIST, 0, 0};
+    fill(k, 0, odd.f2, list, q);
+    return (struct qpp_arp){QPP_DONE, odd.f1, q};
+}
+
+/* The addresses listed; then the least distance at each step apart, from 1 up, until one settles it. */
+struct qpp_value plain_spread(uint32_t k, uint32_t f1, uint32_t f2) {
+    uint16_t list[8192];
+    uint32_t number = judge(k, f1, f2);
+    if (number != QPP_DONE)
+        return (struct qpp_value){number, 0};
+    fill(k, f1, f2, list, k);
+    uint16_t s = 1, least = (uint16_t)k;
+    for (; s < least; s++) {
+        uint16_t near = UINT16_MAX;
+        for (uint32_t x = 0; x < k - s; x++) {
+            uint16_t a = list[x], b = list[x + s];
+            uint16_t apart = (uint16_t)(a < b ? b - a : a - b);
+            near = apart < near ? apart : near;
+        }
+        if (near <= s)
+            break;
+        least = near < least ? near : least;
+    }
+    return (struct qpp_value){QPP_DONE, s};
+}
+
+static const uint32_t catalan[13] = {1, 1, 2, 5, 14, 42, 132, 429, 1430, 4862, 16796, 58786, 208012};
+/* y(y+1)...(y+n-1): of each n from 1 to 13 the coefficients at the places 1 to n */
+static const uint32_t rising[91] = {
+    1,        1,       1,      2,     3,     1,     6,         11,         6,          1,          24,        50,
+    35,       10,      1,      120,   274,   225,   85,        15,         1,          720,        1764,      1624,
+    735,      175,     21,     1,     5040,  13068, 13132,     6769,       1960,       322,        28,        1,
+    40320,    109584,  118124, 67284, 22449, 4536,  546,       36,         1,          362880,     1026576,   1172700,
+    723680,   269325,  63273,  9450,  870,   45,    1,         3628800,    10628640,   12753576,   8409500,   3416930,
+    902055,   157773,  18150,  1320,  55,    1,     39916800,  120543840,  150917976,  105258076,  45995730,  13339535,
+    2637558,  357423,  32670,  1925,  66,    1,     479001600, 1486442880, 1931559552, 1414014888, 657206836, 206070150,
+    44990231, 6926634, 749463, 55770, 2717,  78,    1,
+};
+
+/* The series, then from the top place down what is above the limit taken away. */
+struct qpp_inverse plain_inverse(uint32_t k, uint32_t f1, uint32_t f2) {
+    struct qpp_inverse r = {judge(k, f1, f2), 0, {0}};
+    if (r.number != QPP_DONE)
+        return r;
+    struct pair odd = odd_form(k, f1, f2);
+    uint32_t power = unit(k, odd.f1), limit[14] = {k};
+    uint32_t step = (uint32_t)((uint64_t)(k - 1) * (odd.f2 * (power * power % k) % k) % k);
+    for (int j = 0; j < 13; j++) {
+        r.a[j] = (uint32_t)((uint64_t)power * catalan[j] % k);
+        power = power * step % k;
+    }
+    for (uint32_t j = 1; j < 14; j++)
+        limit[j] = limit[j - 1] / gcd(limit[j - 1], j);
+    for (int n = 13; n > 0; n--) {
+        uint32_t a = r.a[n - 1];
+        if (a >= limit[n]) {
+            uint32_t times = k - (a - a % limit[n]);
+            for (int j = 0; j < n; j++)
+                r.a[j] = (uint32_t)((r.a[j] + (uint64_t)times * rising[n * (n - 1) / 2 + j]) % k);
+        }
+    }
+    for (r.degree = 13; r.degree > 0 && r.a[r.degree - 1] == 0;)
+        r.degree--;
+    return r;
+}
+
+struct qpp_step plain_walker_step(struct qpp_walker w) {
+    uint32_t number = range(w.k, w.f1, w.f2);
+    if (number == QPP_DONE && w.at >= w.k)
+        number = QPP_NO_POSITION;
+    if (number != QPP_DONE)
+        return (struct qpp_step){number, 0, {0, 0, 0, 0}};
+    uint32_t next = w.at + 1 == w.k ? 0 : w.at + 1;
+    return (struct qpp_step){QPP_DONE, place(w.k, w.f1, w.f2, w.at), {w.k, w.f1, w.f2, next}};
+}
+
+uint32_t plain_loop(uint32_t k, uint32_t f1, uint32_t f2) {
+    uint32_t sum = 0;
+    for (uint32_t x = 0; x < k; x++)
+        sum += place(k, f1, f2, x);
+    return sum;
+}
+
+static inline uint32_t movable(uint32_t k, uint32_t f1, uint32_t f2, size_t n, size_t m) {
+    uint32_t number = judge(k, f1, f2);
+    if (number != QPP_DONE)
+        return number;
+    if (n != k)
+        return QPP_NO_BLOCK;
+    if (m < (k + 7) / 8)
+        return QPP_NO_SCRATCH;
+    return QPP_DONE;
+}
+
+static inline void mark(uint8_t *s, size_t i) { s[i / 8] |= (uint8_t)(1 << i % 8); }
+static inline bool marked(const uint8_t *s, size_t i) { return s[i / 8] >> i % 8 & 1; }
+
+/* The first place from i on that has no mark; n or more if there is none. */
+static inline size_t next_free(const uint8_t *s, size_t i, size_t n) {
+    while (i < n && marked(s, i))
+        i++;
+    return i;
+}
+
+/* The same, passing over a byte that is full. */
+static inline size_t quick_next_free(const uint8_t *s, size_t i, size_t n) {
+    while (i < n && marked(s, i))
+        i = s[i / 8] == 255 ? i / 8 * 8 + 8 : i + 1;
+    return i;
+}
+
+/*
+ * f with no division. one is 2 to the 64th divided by k, rounded up; by1 and by2 are f1 and f2 times that. The
+ * product's lower half is the fraction of f1*x + f2*x*x by k, and k times it has the remainder above the point.
+ */
+struct map {
+    uint64_t by1, by2;
+};
+
+static inline struct map quick_map(uint32_t k, uint32_t f1, uint32_t f2) {
+    uint64_t one = UINT64_MAX / k + 1;
+    return (struct map){one * f1, one * f2};
+}
+
+static inline size_t quick_place(struct map q, uint32_t k, size_t x) {
+    return (size_t)((unsigned __int128)((q.by1 + q.by2 * x) * x) * k >> 64);
+}
+
+/* Each place takes the symbol of the place that f leads to. WITH declares what PLACE, f at i, makes use of. */
+#define INTERLEAVE(FUNCTION, TYPE, NEXT_FREE, WITH, PLACE)                                                 \
+    uint32_t FUNCTION(uint32_t k, uint32_t f1, uint32_t f2, TYPE *block, size_t n, uint8_t *s, size_t m) { \
+        uint32_t number = movable(k, f1, f2, n, m);                                                        \
+        if (number != QPP_DONE)                                                                            \
+            return number;                                                                                 \
+        WITH;                                                                                              \
+        memset(s, 0, (n + 7) / 8);                                                                         \
+        for (size_t start = 0; start < n; start = NEXT_FREE(s, start + 1, n)) {                            \
+            TYPE first = block[start];                                                                     \
+            size_t i = start;                                                                              \
+            for (;;) {                                                                                     \
+                mark(s, i);                                                                                \
+                size_t next = PLACE;                                                                       \
+                if (next == start)                                                                         \
+                    break;                                                                                 \
+                block[i] = block[next];                                                                    \
+                i = next;                                                                                  \
+            }                                                                                              \
+            block[i] = first;                                                                              \
+        }                                                                                                  \
+        memset(s, 0, (n + 7) / 8);                                                                         \
+        return QPP_DONE;                                                                                   \
+    }
+
+/* Each symbol goes to the place that f leads to, and the one that stood there is carried on. */
+#define DEINTERLEAVE(FUNCTION, TYPE, NEXT_FREE, WITH, PLACE)                                               \
+    uint32_t FUNCTION(uint32_t k, uint32_t f1, uint32_t f2, TYPE *block, size_t n, uint8_t *s, size_t m) { \
+        uint32_t number = movable(k, f1, f2, n, m);                                                        \
+        if (number != QPP_DONE)                                                                            \
+            return number;                                                                                 \
+        WITH;                                                                                              \
+        memset(s, 0, (n + 7) / 8);                                                                         \
+        for (size_t start = 0; start < n; start = NEXT_FREE(s, start + 1, n)) {                            \
+            TYPE carried = block[start];                                                                   \
+            size_t i = start;                                                                              \
+            do {                                                                                           \
+                mark(s, i);                                                                                \
+                i = PLACE;                                                                                 \
+                TYPE held = block[i];                                                                      \
+                block[i] = carried;                                                                        \
+                carried = held;                                                                            \
+            } while (i != start);                                                                          \
+        }                                                                                                  \
+        memset(s, 0, (n + 7) / 8);                                                                         \
+        return QPP_DONE;                                                                                   \
+    }
+
+#define DIVIDED next_free, , (f1 + (uint64_t)f2 * i) * i % n
+#define MULTIPLIED quick_next_free, struct map map = quick_map(k, f1, f2), quick_place(map, k, i)
+#define EXPAND(WHAT, ...) WHAT(__VA_ARGS__)
+EXPAND(INTERLEAVE, plain_interleave_u8, uint8_t, DIVIDED)
+EXPAND(INTERLEAVE, plain_interleave_i16, int16_t, DIVIDED)
+EXPAND(DEINTERLEAVE, plain_deinterleave_u8, uint8_t, DIVIDED)
+EXPAND(DEINTERLEAVE, plain_deinterleave_i16, int16_t, DIVIDED)
+EXPAND(INTERLEAVE, quick_interleave_u8, uint8_t, MULTIPLIED)
+EXPAND(INTERLEAVE, quick_interleave_i16, int16_t, MULTIPLIED)
+EXPAND(DEINTERLEAVE, quick_deinterleave_u8, uint8_t, MULTIPLIED)
+EXPAND(DEINTERLEAVE, quick_deinterleave_i16, int16_t, MULTIPLIED)
+
+#define THROUGH_TABLE(TYPE, NAME)                                                                          \
+    void table_interleave_##NAME(size_t k, const uint16_t *table, const TYPE *from, TYPE *restrict to) {   \
+        for (size_t i = 0; i < k; i++)                                                                     \
+            to[i] = from[table[i]];                                                                        \
+    }                                                                                                      \
+    void table_deinterleave_##NAME(size_t k, const uint16_t *table, const TYPE *from, TYPE *restrict to) { \
+        for (size_t i = 0; i < k; i++)                                                                     \
+            to[table[i]] = from[i];                                                                        \
+    }
+THROUGH_TABLE(uint8_t, u8)
+THROUGH_TABLE(int16_t, i16)

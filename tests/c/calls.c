@@ -1,0 +1,231 @@
+/* The cases of the scope, with exact expectations, and each call on both sides of each of its limits. */
+#include "model.h"
+#include <string.h>
+
+static uint8_t bytes[8200];
+static int16_t words[8200];
+static uint8_t scratch[1025];
+static uint16_t list[8200];
+
+static bool same_walker(struct qpp_walker a, struct qpp_walker b) {
+    return a.k == b.k && a.f1 == b.f1 && a.f2 == b.f2 && a.at == b.at;
+}
+
+/* With buffers that fit, every call that judges the triple gives this number, and zeros beside a refusal. */
+static void every_call(uint32_t k, uint32_t f1, uint32_t f2, uint32_t number) {
+    struct triple t = {k, f1, f2};
+    const struct qpp_walker none = {0, 0, 0, 0};
+    const uint32_t zeros[13] = {0};
+    size_t n = k <= 8192 ? k : 8192;
+    CHECK(qpp_accept(k, f1, f2) == number);
+    struct qpp_value address = qpp_address(k, f1, f2, 0);
+    CHECK(address.number == number && address.value == 0); /* f(0) = 0 */
+    struct qpp_value reciprocal = qpp_reciprocal(k, f1, f2);
+    CHECK(reciprocal.number == number && (reciprocal.value != 0) == (number == 0));
+    struct qpp_value spread = qpp_spread(k, f1, f2);
+    CHECK(spread.number == number && (spread.value != 0) == (number == 0));
+    struct qpp_inverse inverse = qpp_inverse(k, f1, f2);
+    CHECK(inverse.number == number && (inverse.degree != 0) == (number == 0));
+    CHECK((memcmp(inverse.a, zeros, sizeof zeros) != 0) == (number == 0));
+    struct qpp_arp arp = qpp_arp(k, f1, f2, list, 8200);
+    CHECK(arp.number == number && (arp.p != 0) == (number == 0) && (arp.q != 0) == (number == 0));
+    struct qpp_start start = qpp_walker_start(k, f1, f2);
+    CHECK(start.number == number);
+    CHECK(same_walker(start.walker, number == 0 ? (struct qpp_walker){k, f1, f2, 0} : none));
+    CHECK(qpp_addresses(k, f1, f2, list, 8200) == number);
+    CHECK(qpp_interleave_u8(k, f1, f2, bytes, n, scratch, 1025) == number);
+    CHECK(qpp_deinterleave_u8(k, f1, f2, bytes, n, scratch, 1025) == number);
+    CHECK(qpp_interleave_i16(k, f1, f2, words, n, scratch, 1025) == number);
+    CHECK(qpp_deinterleave_i16(k, f1, f2, words, n, scratch, 1025) == number);
+}
+
+static void judging(void) {
+    static const uint32_t cases[][4] = {
+        /* K, f1, f2, number */
+        /* 1: the length, before anything else */
+        {0, 0, 0, 1},
+        {1, 0, 0, 1},
+        {2, 1, 0, 0},
+        {8192, 1, 2, 0},
+        {8193, 1, 2, 1},
+        {9000, 1, 0, 1},
+        {0xffffffff, 1, 2, 1},
+        {1, 7, 7, 1},
+        {8193, 9000, 9000, 1},
+        {0, 0xffffffff, 0xffffffff, 1},
+        /* 2: the coefficients, before the question whether f permutes */
+        {5, 4, 0, 0},
+        {5, 5, 0, 2},
+        {5, 1, 5, 2},
+        {5, 5, 5, 2},
+        {9, 1, 6, 0},
+        {9, 1, 9, 2},
+        {9, 1, 0xffffffff, 2},
+        {8192, 8191, 8190, 0},
+        {8192, 8192, 2, 2},
+        {8192, 1, 8192, 2},
+        {2, 2, 1, 2},
+        {2, 0, 2, 2},
+        /* 3: no two positions share a value */
+        {2, 0, 1, 0},
+        {2, 1, 1, 3},
+        {2, 0, 0, 3},
+        {3, 1, 1, 3},
+        {4, 1, 2, 0},
+        {4, 1, 1, 3},
+        {5, 0, 0, 3},
+        {6, 2, 3, 0},
+        {8, 1, 4, 0},
+        {8, 2, 4, 3},
+        {9, 1, 3, 0},
+        {40, 3, 10, 0},
+        {40, 5, 10, 3},
+        {1504, 23, 94, 0},
+        {6016, 23, 94, 0},
+        {6144, 263, 480, 0},
+        {6144, 263, 481, 3},
+        {8192, 2, 2, 3},
+        {8192, 1, 1, 3},
+        {8191, 1, 0, 0},
+        {8191, 1, 1, 3},
+    };
+    for (size_t i = 0; i < sizeof cases / sizeof *cases; i++)
+        every_call(cases[i][0], cases[i][1], cases[i][2], cases[i][3]);
+}
+
+static void inverses(void) {
+    static const struct {
+        struct triple t;
+        uint32_t degree, a[4];
+    } cases[] = {
+        {{2, 0, 1}, 1, {1}},
+        {{4, 1, 2}, 1, {3}},
+        {{6, 2, 3}, 1, {5}},
+        {{8, 1, 4}, 1, {5}},
+        {{9, 1, 3}, 2, {1, 6}},
+        {{40, 3, 10}, 2, {27, 10}},
+        {{1504, 23, 94}, 3, {1079, 470, 376}},
+        {{6016, 23, 94}, 4, {1831, 2350, 1880, 376}},
+    };
+    for (size_t i = 0; i < sizeof cases / sizeof *cases; i++) {
+        struct triple t = cases[i].t;
+        struct qpp_inverse r = qpp_inverse(t.k, t.f1, t.f2);
+        CHECK(r.number == 0 && r.degree == cases[i].degree);
+        for (uint32_t j = 0; j < 13; j++)
+            CHECK(r.a[j] == (j < 4 ? cases[i].a[j] : 0));
+        CHECK(model_fits_inverse(t, &r));
+    }
+}
+
+static void values(void) {
+    struct triple t = {40, 3, 10};
+    CHECK(qpp_reciprocal(40, 3, 10).value == 27);
+    CHECK(qpp_spread(40, 3, 10).value == 3);
+    CHECK(qpp_spread(8, 1, 4).value == 2);
+    /* 6: the position, after the triple */
+    CHECK(qpp_address(9, 1, 3, 8).number == 0 && qpp_address(9, 1, 3, 8).value == 2);
+    CHECK(qpp_address(9, 1, 3, 9).number == 6 && qpp_address(9, 1, 3, 9).value == 0);
+    CHECK(qpp_address(9, 1, 3, 0xffffffff).number == 6);
+    CHECK(qpp_address(9, 1, 1, 9).number == 3 && qpp_address(9, 9, 1, 9).number == 2);
+    CHECK(qpp_address(8192, 8191, 8190, 8191).value == model_f((struct triple){8192, 8191, 8190}, 8191));
+    CHECK(qpp_address(8192, 1, 2, 8192).number == 6);
+}
+
+/* Addresses written into a list of n entries; the entry after them stays. */
+static void lists(void) {
+    static const uint16_t of_4[] = {0, 3, 2, 1}, of_6[] = {0, 5, 4, 3, 2, 1};
+    struct triple t = {4, 1, 2};
+    list[4] = 77;
+    CHECK(qpp_addresses(4, 1, 2, list, 5) == 0 && memcmp(list, of_4, sizeof of_4) == 0 && list[4] == 77);
+    CHECK(qpp_addresses(4, 1, 2, list, 4) == 0 && qpp_addresses(4, 1, 2, list, 3) == 7 &&
+          qpp_addresses(4, 1, 2, list, 0) == 7);
+    CHECK(qpp_addresses(4, 1, 1, list, 3) == 3); /* 3 before 7 */
+    CHECK(qpp_addresses(8192, 1, 2, list, 8192) == 0 && qpp_addresses(8192, 1, 2, list, 8191) == 7);
+    t = (struct triple){6, 2, 3};
+    CHECK(qpp_addresses(6, 2, 3, list, 6) == 0 && memcmp(list, of_6, sizeof of_6) == 0);
+    t = (struct triple){8, 1, 4};
+    list[2] = 77;
+    struct qpp_arp r = qpp_arp(8, 1, 4, list, 3);
+    CHECK(r.number == 0 && r.p == 1 && r.q == 2 && list[0] == 0 && list[1] == 4 && list[2] == 77);
+    CHECK(qpp_arp(8, 1, 4, list, 2).number == 0);
+    r = qpp_arp(8, 1, 4, list, 1);
+    CHECK(r.number == 7 && r.p == 0 && r.q == 0 && qpp_arp(8, 2, 4, list, 1).number == 3);
+    t = (struct triple){40, 3, 10};
+    r = qpp_arp(40, 3, 10, list, 2);
+    CHECK(r.number == 0 && r.p == 3 && r.q == 2);
+}
+
+/* A walker goes round twice; one made by hand is refused by 1, 2, 6 and may be of no shuffle. */
+static void walkers(void) {
+    static const uint32_t refused[][5] = {
+        {0, 0, 0, 0, 1}, {1, 0, 0, 0, 1}, {8193, 1, 2, 0, 1},       {1, 9, 9, 9, 1},       {9, 9, 3, 9, 2},
+        {9, 1, 9, 0, 2}, {9, 1, 3, 9, 6}, {9, 1, 3, 0xffffffff, 6}, {8192, 1, 2, 8192, 6}, {3, 1, 1, 3, 6},
+    };
+    struct triple t = {9, 1, 3};
+    struct qpp_walker w = qpp_walker_start(9, 1, 3).walker;
+    for (uint32_t x = 0; x < 18; x++) {
+        struct qpp_step s = qpp_walker_step(w);
+        CHECK(s.number == 0 && s.address == model_f(t, x % 9) && s.walker.at == (x + 1) % 9);
+        w = s.walker;
+    }
+    for (size_t i = 0; i < sizeof refused / sizeof *refused; i++) {
+        w = (struct qpp_walker){refused[i][0], refused[i][1], refused[i][2], refused[i][3]};
+        struct qpp_step s = qpp_walker_step(w);
+        CHECK(s.number == refused[i][4] && s.address == 0 && same_walker(s.walker, (struct qpp_walker){0, 0, 0, 0}));
+    }
+    t = (struct triple){3, 1, 1};
+    for (uint32_t x = 0; x < 3; x++) /* addresses 0, 2, 0 */
+        CHECK(qpp_walker_step((struct qpp_walker){3, 1, 1, x}).address == (x == 1 ? 2 : 0));
+}
+
+static void blocks(void) {
+    uint8_t six[] = "ABCDEF", nine[] = "ABCDEFGHI";
+    int16_t wide[9];
+    struct triple t = {6, 2, 3};
+    CHECK(qpp_interleave_u8(6, 2, 3, six, 6, scratch, 1) == 0 && memcmp(six, "AFEDCB", 6) == 0);
+    t = (struct triple){9, 1, 3};
+    CHECK(qpp_interleave_u8(9, 1, 3, nine, 9, scratch, 2) == 0 && memcmp(nine, "AEFDHIGBC", 9) == 0);
+    CHECK(qpp_deinterleave_u8(9, 1, 3, nine, 9, scratch, 2) == 0 && memcmp(nine, "ABCDEFGHI", 9) == 0);
+    CHECK(qpp_deinterleave_u8(9, 1, 3, nine, 9, scratch, 2) == 0 && memcmp(nine, "AHIDBCGEF", 9) == 0);
+    for (int i = 0; i < 9; i++)
+        wide[i] = (int16_t)(-32768 + i); /* no byte of a symbol is lost */
+    CHECK(qpp_interleave_i16(9, 1, 3, wide, 9, scratch, 2) == 0);
+    for (int i = 0; i < 9; i++)
+        CHECK(wide[i] == -32768 + "AEFDHIGBC"[i] - 'A');
+    CHECK(qpp_deinterleave_i16(9, 1, 3, wide, 9, scratch, 2) == 0);
+    for (int i = 0; i < 9; i++)
+        CHECK(wide[i] == -32768 + i);
+}
+
+/* 4 and 5: the lengths of block and scratch, in this order, after the triple. */
+static void lengths(void) {
+    static const struct {
+        struct triple t;
+        uint32_t n, m, number;
+    } cases[] = {
+        {{9, 1, 3}, 9, 2, 0},          {{9, 1, 3}, 8, 2, 4},          {{9, 1, 3}, 10, 2, 4},
+        {{9, 1, 3}, 0, 0, 4},          {{9, 1, 3}, 9, 1, 5},          {{9, 1, 3}, 9, 0, 5},
+        {{9, 1, 3}, 8, 1, 4},          {{9, 1, 1}, 8, 1, 3},          {{9, 9, 1}, 8, 1, 2},
+        {{1, 0, 0}, 8, 0, 1},          {{8, 1, 4}, 8, 1, 0},          {{8, 1, 4}, 8, 0, 5},
+        {{8192, 1, 2}, 8192, 1024, 0}, {{8192, 1, 2}, 8192, 1023, 5}, {{8192, 1, 2}, 8191, 1024, 4},
+        {{8192, 1, 2}, 8193, 1024, 4},
+    };
+    for (size_t i = 0; i < sizeof cases / sizeof *cases; i++) {
+        struct triple t = cases[i].t;
+        uint32_t n = cases[i].n, m = cases[i].m;
+        CHECK(qpp_interleave_u8(t.k, t.f1, t.f2, bytes, n, scratch, m) == cases[i].number);
+        CHECK(qpp_deinterleave_u8(t.k, t.f1, t.f2, bytes, n, scratch, m) == cases[i].number);
+        CHECK(qpp_interleave_i16(t.k, t.f1, t.f2, words, n, scratch, m) == cases[i].number);
+        CHECK(qpp_deinterleave_i16(t.k, t.f1, t.f2, words, n, scratch, m) == cases[i].number);
+    }
+}
+
+void test_calls(void) {
+    judging();
+    inverses();
+    values();
+    lists();
+    walkers();
+    blocks();
+    lengths();
+}

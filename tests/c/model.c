@@ -1,0 +1,215 @@
+#include "model.h"
+#include <string.h>
+
+#define LONGEST 8192
+
+/* Asked only for numbers in range: f2*x*x reaches nearly 2 to the 39th. */
+uint32_t model_f(struct triple t, uint32_t x) {
+    uint64_t y = x;
+    return (uint32_t)((t.f1 * y + t.f2 * y * y) % t.k);
+}
+
+static uint32_t range(struct triple t) {
+    if (t.k < 2 || t.k > LONGEST)
+        return 1;
+    if (t.f1 >= t.k || t.f2 >= t.k)
+        return 2;
+    return 0;
+}
+
+static bool permutes(struct triple t) {
+    bool met[LONGEST];
+    memset(met, 0, t.k);
+    for (uint32_t x = 0; x < t.k; x++) {
+        uint32_t y = model_f(t, x);
+        if (met[y])
+            return false;
+        met[y] = true;
+    }
+    return true;
+}
+
+uint32_t model_accept(struct triple t) {
+    /* The tests ask for the same triple many times over, so that the last answer is kept. */
+    static struct triple last;
+    static uint32_t number = 1;
+    if (t.k != last.k || t.f1 != last.f1 || t.f2 != last.f2) {
+        last = t;
+        number = range(t) ? range(t) : permutes(t) ? 0 : 3;
+    }
+    return number;
+}
+
+struct qpp_value model_address(struct triple t, uint32_t x) {
+    struct qpp_value r = {model_accept(t), 0};
+    if (r.number == 0 && x >= t.k)
+        r.number = 6;
+    if (r.number == 0)
+        r.value = model_f(t, x);
+    return r;
+}
+
+/* The odd form of an accepted triple. */
+static struct triple odd_form(struct triple t) {
+    if (t.k % 2 != 0 || t.f1 % 2 != 0)
+        return t;
+    uint32_t half = t.k / 2;
+    return (struct triple){t.k, (t.f1 + half) % t.k, (t.f2 + half) % t.k};
+}
+
+struct qpp_value model_reciprocal(struct triple t) {
+    struct qpp_value r = {model_accept(t), 0};
+    if (r.number == 0)
+        while (r.value * odd_form(t).f1 % t.k != 1)
+            r.value++;
+    return r;
+}
+
+static uint32_t distance(uint32_t a, uint32_t b) { return a < b ? b - a : a - b; }
+
+/* May s be the spread? Any two positions less than s apart have addresses at least s apart. */
+static bool spreads(struct triple t, uint32_t s) {
+    for (uint32_t x = 0; x < t.k; x++)
+        for (uint32_t y = x + 1; y < t.k && y - x < s; y++)
+            if (distance(model_f(t, x), model_f(t, y)) < s)
+                return false;
+    return true;
+}
+
+/* What spreads by s spreads by less, so that the first s that fails ends the search. */
+struct qpp_value model_spread(struct triple t) {
+    struct qpp_value r = {model_accept(t), 0};
+    if (r.number == 0)
+        for (r.value = 1; r.value < t.k && spreads(t, r.value + 1);)
+            r.value++;
+    return r;
+}
+
+/* f2*i*i mod K */
+static uint32_t square_part(struct triple t, uint64_t i) { return (uint32_t)(t.f2 * i * i % t.k); }
+
+static bool repeats(struct triple t, uint32_t q) {
+    for (uint32_t i = 0; i < t.k; i++)
+        if (square_part(t, i) != square_part(t, i + q))
+            return false;
+    return true;
+}
+
+struct qpp_arp model_arp(struct triple t, uint16_t *list, size_t n) {
+    struct qpp_arp r = {model_accept(t), 0, 0};
+    if (r.number != 0)
+        return r;
+    struct triple odd = odd_form(t);
+    uint32_t q = 1;
+    while (t.k % q != 0 || !repeats(odd, q))
+        q++;
+    if (n < q)
+        return (struct qpp_arp){7, 0, 0};
+    for (uint32_t j = 0; j < q; j++)
+        list[j] = (uint16_t)square_part(odd, j);
+    return (struct qpp_arp){0, odd.f1, q};
+}
+
+struct qpp_start model_start(struct triple t) {
+    struct qpp_start r = {model_accept(t), {0, 0, 0, 0}};
+    if (r.number == 0)
+        r.walker = (struct qpp_walker){t.k, t.f1, t.f2, 0};
+    return r;
+}
+
+struct qpp_step model_step(struct qpp_walker w) {
+    struct triple t = {w.k, w.f1, w.f2};
+    struct qpp_step r = {range(t), 0, {0, 0, 0, 0}};
+    if (r.number == 0 && w.at >= w.k)
+        r.number = 6;
+    if (r.number == 0) {
+        r.address = model_f(t, w.at);
+        r.walker = w;
+        r.walker.at = w.at == w.k - 1 ? 0 : w.at + 1;
+    }
+    return r;
+}
+
+uint32_t model_addresses(struct triple t, uint16_t *list, size_t n) {
+    if (model_accept(t) != 0)
+        return model_accept(t);
+    if (n < t.k)
+        return 7;
+    for (uint32_t x = 0; x < t.k; x++)
+        list[x] = (uint16_t)model_f(t, x);
+    return 0;
+}
+
+uint32_t model_move(struct triple t, enum direction d, size_t width, void *block, size_t n, uint8_t *scratch,
+                    size_t m) {
+    static uint8_t old[2 * LONGEST];
+    uint8_t *new = block;
+    if (model_accept(t) != 0)
+        return model_accept(t);
+    if (n != t.k)
+        return 4;
+    if (m < (t.k + 7) / 8)
+        return 5;
+    memcpy(old, block, n * width);
+    for (uint32_t i = 0; i < t.k; i++) {
+        uint32_t other = model_f(t, i);
+        if (d == INTERLEAVE)
+            memcpy(new + i *width, old + other * width, width);
+        else
+            memcpy(new + other *width, old + i * width, width);
+    }
+    memset(scratch, 0, (t.k + 7) / 8);
+    return 0;
+}
+
+/* K divided by gcd(K, j!), the divisor found by trying every one. */
+static uint32_t limit(uint32_t k, uint32_t j) {
+    uint64_t factorial = 1;
+    for (uint32_t i = 2; i <= j; i++)
+        factorial *= i;
+    uint32_t d = k;
+    while (k % d != 0 || factorial % d != 0)
+        d--;
+    return k / d;
+}
+
+/* g(y) mod K */
+static uint32_t value(const struct qpp_inverse *g, uint32_t k, uint32_t y) {
+    uint64_t sum = 0, power = 1;
+    for (int j = 0; j < 13; j++) {
+        power = power * y % k;
+        sum += g->a[j] * power;
+    }
+    return (uint32_t)(sum % k);
+}
+
+bool model_fits_inverse(struct triple t, const struct qpp_inverse *g) {
+    bool refused = model_accept(t) != 0;
+    if (g->number != model_accept(t))
+        return false;
+    if (refused ? g->degree != 0 : g->degree < 1 || g->degree > 13 || g->a[g->degree - 1] == 0)
+        return false;
+    for (uint32_t j = g->degree; j < 13; j++)
+        if (g->a[j] != 0)
+            return false;
+    if (refused)
+        return true;
+    for (uint32_t j = 1; j <= g->degree; j++)
+        if (g->a[j - 1] >= limit(t.k, j))
+            return false;
+    static uint32_t back[LONGEST];
+    for (uint32_t x = 0; x < t.k; x++) {
+        back[model_f(t, x)] = x;
+        if (value(g, t.k, model_f(t, x)) != x)
+            return false;
+    }
+    /* Least degree: the D-th difference of a polynomial of lower degree is 0 everywhere. Here it is not, at 0. The
+     * table is gone on with from its start where it is short, since polynomials modulo K repeat with period K. */
+    int64_t difference[14];
+    for (uint32_t y = 0; y <= g->degree; y++)
+        difference[y] = back[y % t.k];
+    for (uint32_t left = g->degree; left > 0; left--)
+        for (uint32_t y = 0; y < left; y++)
+            difference[y] = difference[y + 1] - difference[y];
+    return difference[0] % t.k != 0;
+}

@@ -1,0 +1,27 @@
+/*
+ * A plain model of every call, from the definitions and by brute force. It has no method in common with the library:
+ * acceptance marks every position, the reciprocal is searched for, blocks are moved out of place.
+ */
+#ifndef MODEL_H
+#define MODEL_H
+
+#include "check.h"
+#include "qpp.h"
+
+enum direction { INTERLEAVE, DEINTERLEAVE };
+
+uint32_t model_f(struct triple t, uint32_t x);
+uint32_t model_accept(struct triple t);
+struct qpp_value model_address(struct triple t, uint32_t x);
+struct qpp_value model_reciprocal(struct triple t);
+struct qpp_value model_spread(struct triple t); /* slow: K times its square */
+struct qpp_arp model_arp(struct triple t, uint16_t *list, size_t n);
+struct qpp_start model_start(struct triple t);
+struct qpp_step model_step(struct qpp_walker w);
+uint32_t model_addresses(struct triple t, uint16_t *list, size_t n);
+/* width: the bytes of a symbol */
+uint32_t model_move(struct triple t, enum direction d, size_t width, void *block, size_t n, uint8_t *scratch, size_t m);
+/* Has the answer every property that is promised of the inverse? No second answer has them all. */
+bool model_fits_inverse(struct triple t, const struct qpp_inverse *answer);
+
+#endif
