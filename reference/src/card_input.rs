@@ -1,7 +1,7 @@
 //! Input for a test of the card program.
 
 use crate::inverses::standard_rows;
-use crate::shuffle::{Triple, DONE};
+use crate::shuffle::Triple;
 use std::io::{self, Write};
 
 const SAMPLES: &[u8] = b"40 3 10\n8 1 4\n8 2 4\n9000 1 0\n";
@@ -21,27 +21,19 @@ fn write_triple(out: &mut impl Write, t: Triple) -> io::Result<()> {
     writeln!(out, "{} {} {}", t.k, t.f1, t.f2)
 }
 
-/// All triples up to K = 20; above, the accepted ones and every seventh of the others.
+/// Every triple with K up to 32, and both coefficients at K as well.
 fn write_small(out: &mut impl Write) -> io::Result<()> {
-    let mut refused = 0;
     for k in 1..=32 {
         for f1 in 0..=k {
             for f2 in 0..=k {
-                let t = Triple::new(k, f1, f2);
-                let accepted = t.acceptance() == DONE;
-                if k > 20 && !accepted {
-                    refused += 1;
-                }
-                if k <= 20 || accepted || refused % 7 == 0 {
-                    write_triple(out, t)?;
-                }
+                write_triple(out, Triple::new(k, f1, f2))?;
             }
         }
     }
     Ok(())
 }
 
-/// Leading zeros, all nines, and document 01's own cases.
+/// Leading zeros, all nines, and the scope's own cases.
 const LIMITS: &[&str] = &[
     "99999 99999 99999",
     "8192 8191 8190",
