@@ -68,4 +68,5 @@ cases =
     ∷ reciprocal 40 3 10 27
     ∷ judged 1 0 0 1
     ∷ judged 5 5 0 2
+    ∷ judged 5 0 0 3
     ∷ []
