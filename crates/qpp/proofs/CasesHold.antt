@@ -34,77 +34,35 @@ arp-8 =
     (period-double (triple 8 1 4) 8 1 (omega arith) (record { left = dvd-refl 8; right = dvd-refl 8; greatest = λ d p q. p }) refl (λ e. omega arith))
     (record { size = refl; entries = same-below 2 (λ j. getD (0 ∷ 4 ∷ []) j 0) (shift (triple 8 1 4)) tt; rest = λ j l. refl })
 
+infixr 4 _&_
+_&_ : {A B : Type 0} → A → B → A × B
+a & b = (a, b)
+
 pub cases-hold : All cases
-cases-hold = (
-  judged-as (triple 2 0 1) 0 tt,
-  (
-    inverted-by-test 2 (f (triple 2 0 1)) 1 (1 ∷ replicate 12 0) refl tt,
-    (
-      judged-as (triple 2 1 1) 3 tt,
-      (
-        judged-as (triple 3 1 1) 3 tt,
-        (
-          listed 3 1 1 (0 ∷ 2 ∷ 0 ∷ []) refl tt,
-          (
-            judged-as (triple 4 1 2) 0 tt,
-            (
-              listed 4 1 2 (0 ∷ 3 ∷ 2 ∷ 1 ∷ []) refl tt,
-              (
-                inverted-by-test 4 (f (triple 4 1 2)) 1 (3 ∷ replicate 12 0) refl tt,
-                (
-                  judged-as (triple 4 1 1) 3 tt,
-                  (
-                    judged-as (triple 6 2 3) 0 tt,
-                    (
-                      listed 6 2 3 (0 ∷ 5 ∷ 4 ∷ 3 ∷ 2 ∷ 1 ∷ []) refl tt,
-                      (
-                        inverted-by-test 6 (f (triple 6 2 3)) 1 (5 ∷ replicate 12 0) refl tt,
-                        (
-                          (refl, interleaved (f (triple 6 2 3)) (65 ∷ 66 ∷ 67 ∷ 68 ∷ 69 ∷ 70 ∷ []) (65 ∷ 70 ∷ 69 ∷ 68 ∷ 67 ∷ 66 ∷ []) refl tt),
-                          (
-                            judged-as (triple 8 1 4) 0 tt,
-                            (
-                              inverted-by-test 8 (f (triple 8 1 4)) 1 (5 ∷ replicate 12 0) refl tt,
-                              (
-                                (refl, arp-8),
-                                (
-                                  judged-as (triple 9 1 3) 0 tt,
-                                  (
-                                    inverted-by-test 9 (f (triple 9 1 3)) 2 (1 ∷ 6 ∷ replicate 11 0) refl tt,
-                                    (
-                                      (refl, interleaved (f (triple 9 1 3)) letters (65 ∷ 69 ∷ 70 ∷ 68 ∷ 72 ∷ 73 ∷ 71 ∷ 66 ∷ 67 ∷ []) refl tt),
-                                      (
-                                        (refl, deinterleaved (f (triple 9 1 3)) letters (65 ∷ 72 ∷ 73 ∷ 68 ∷ 66 ∷ 67 ∷ 71 ∷ 69 ∷ 70 ∷ []) refl tt),
-                                        (
-                                          inverted-by-test 40 (f (triple 40 3 10)) 2 (27 ∷ 10 ∷ replicate 11 0) refl tt,
-                                          (
-                                            answered (judged-as (triple 40 3 10) 0 tt) (record { below = omega arith; product = refl }),
-                                            (
-                                              judged-as (triple 1 0 0) 1 tt,
-                                              (
-                                                judged-as (triple 5 5 0) 2 tt,
-                                                tt,
-                                              ),
-                                            ),
-                                          ),
-                                        ),
-                                      ),
-                                    ),
-                                  ),
-                                ),
-                              ),
-                            ),
-                          ),
-                        ),
-                      ),
-                    ),
-                  ),
-                ),
-              ),
-            ),
-          ),
-        ),
-      ),
-    ),
-  ),
-)
+cases-hold =
+    judged-as (triple 2 0 1) 0 tt
+    & inverted-by-test 2 (f (triple 2 0 1)) 1 (1 ∷ replicate 12 0) refl tt
+    & judged-as (triple 2 1 1) 3 tt
+    & judged-as (triple 3 1 1) 3 tt
+    & listed 3 1 1 (0 ∷ 2 ∷ 0 ∷ []) refl tt
+    & judged-as (triple 4 1 2) 0 tt
+    & listed 4 1 2 (0 ∷ 3 ∷ 2 ∷ 1 ∷ []) refl tt
+    & inverted-by-test 4 (f (triple 4 1 2)) 1 (3 ∷ replicate 12 0) refl tt
+    & judged-as (triple 4 1 1) 3 tt
+    & judged-as (triple 6 2 3) 0 tt
+    & listed 6 2 3 (0 ∷ 5 ∷ 4 ∷ 3 ∷ 2 ∷ 1 ∷ []) refl tt
+    & inverted-by-test 6 (f (triple 6 2 3)) 1 (5 ∷ replicate 12 0) refl tt
+    & (refl, interleaved (f (triple 6 2 3)) (65 ∷ 66 ∷ 67 ∷ 68 ∷ 69 ∷ 70 ∷ []) (65 ∷ 70 ∷ 69 ∷ 68 ∷ 67 ∷ 66 ∷ []) refl tt)
+    & judged-as (triple 8 1 4) 0 tt
+    & inverted-by-test 8 (f (triple 8 1 4)) 1 (5 ∷ replicate 12 0) refl tt
+    & (refl, arp-8)
+    & judged-as (triple 9 1 3) 0 tt
+    & inverted-by-test 9 (f (triple 9 1 3)) 2 (1 ∷ 6 ∷ replicate 11 0) refl tt
+    & (refl, interleaved (f (triple 9 1 3)) letters (65 ∷ 69 ∷ 70 ∷ 68 ∷ 72 ∷ 73 ∷ 71 ∷ 66 ∷ 67 ∷ []) refl tt)
+    & (refl, deinterleaved (f (triple 9 1 3)) letters (65 ∷ 72 ∷ 73 ∷ 68 ∷ 66 ∷ 67 ∷ 71 ∷ 69 ∷ 70 ∷ []) refl tt)
+    & inverted-by-test 40 (f (triple 40 3 10)) 2 (27 ∷ 10 ∷ replicate 11 0) refl tt
+    & answered (judged-as (triple 40 3 10) 0 tt) (record { below = omega arith; product = refl })
+    & judged-as (triple 1 0 0) 1 tt
+    & judged-as (triple 5 5 0) 2 tt
+    & judged-as (triple 5 0 0) 3 tt
+    & tt
