@@ -1,4 +1,5 @@
 -- A bit of a number after an `or` with a power of two, and as a shift and a mask read it.
+use borrow.Enum.Match.{each-below}
 use mathlib.Core.Path.{_≡_, refl, ap, _∙_}
 use mathlib.Core.Logic.{_≢_}
 use mathlib.Core.Bool.{true, false}
@@ -59,3 +60,7 @@ bit-read b j = ap (λ (x : ℕ). eqb x 1) (and-mask (b / 2 ^ j) 1)
 pub bit-zero : (j : ℕ) → bit 0 j ≡ false
 unfolding bit
 bit-zero j = ap (λ (x : ℕ). eqb (x % 2) 1) (zero-div (2 ^ j))
+
+pub bit-full : (j : ℕ) → j < 8 → bit 255 j ≡ true
+unfolding bit
+bit-full = each-below 8 (λ (j : ℕ). bit 255 j ≡ true) (refl, (refl, (refl, (refl, (refl, (refl, (refl, (refl, tt))))))))

@@ -4,14 +4,14 @@ use mathlib.Core.Path.{_≡_, sym, ap, _∙_}
 use mathlib.Core.Logic.{_≢_, by-cases}
 use mathlib.Core.List.{List, _++_}
 use mathlib.Core.Bool.{true, false}
-use Prim.Native.Nat.{ℕ, _*_, _/_, _%_, _^_, _≤_, _<_}
+use Prim.Native.Nat.{ℕ, _+_, _*_, _/_, _%_, _^_, _≤_, _<_}
 use native.Mathlib.Decide.{ℕ-discrete, decLt}
 use native.Mathlib.Omega.{arith}
 use lib.ListN.{length, getD, set, replicate, length-set, length-replicate, getD-replicate, List·getD-append, List·getD-eq-default}
 use lib.Seq.{getD-set-same, getD-set-other, drop-set-lt}
 use lib.Bits.{bitOr}
 use Rattle.permuting.specs.Marks.{bit, marked, marks, Marked}
-use Rattle.permuting.proofs.Bits.{bit-or-same, bit-or-other, bit-zero}
+use Rattle.permuting.proofs.Bits.{bit-or-same, bit-or-other, bit-zero, bit-full}
 use Rattle.permuting.proofs.Tabs.{length-tab, getD-tab, is-tab}
 
 pub length-marks : (k : ℕ) (s : List ℕ) → length (marks k s) ≡ k
@@ -78,3 +78,10 @@ none-marked k n r h j =
         getD-marks k (replicate n 0 ++ r) j b
         ∙ ap (λ (x : ℕ). bit x (j % 8)) (List·getD-append (replicate n 0) r 0 (j / 8) (rw length-replicate l) ∙ getD-replicate n (j / 8) 0 0 l)
         ∙ bit-zero (j % 8)
+
+-- a byte of 255 marks every place that it holds
+pub byte-marked : (s : List ℕ) (i j : ℕ) → getD s (i / 8) 0 ≡ 255 → i ≤ j → j < i / 8 * 8 + 8 → marked s j ≡ true
+unfolding marked
+byte-marked s i j full a b =
+    let e : j / 8 ≡ i / 8 = omega arith in
+    ap (λ (x : ℕ). bit x (j % 8)) (ap (λ (q : ℕ). getD s q 0) e ∙ full) ∙ bit-full (j % 8) (omega arith)

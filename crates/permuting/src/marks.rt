@@ -1,7 +1,7 @@
 // One bit to a place, so that a block of k symbols asks for (k + 7) / 8 bytes and no array of the library's own.
 ghost use mathlib.Core.Path.{_≡_};
 ghost use mathlib.Core.Bool.{Bool};
-ghost use Prim.Native.Nat.{ℕ, _*_, _/_, _≤_, _<_};
+ghost use Prim.Native.Nat.{ℕ, _+_, _*_, _/_, _≤_, _<_};
 ghost use lib.ListN.{length};
 ghost use Rattle.permuting.specs.Marks.{marked, Marked, Cleared, FirstFree};
 
@@ -32,7 +32,17 @@ pub fn clear(s: &mut [u8], n: usize)
     }
 }
 
+// The first place of the byte that comes after the one of place i, but never past n.
+fn past_byte(i: usize, n: usize) -> usize
+    requires { ⌜ i < n ⌝ }
+    ensures { λ r. ⌜ (i < r) × (r ≤ n) × (r ≤ i / 8 * 8 + 8) ⌝ }
+{
+    let last = i / 8 * 8 + 7;
+    if last < n { last + 1 } else { n }
+}
+
 // Where the work goes on after a cycle: places that a former cycle passed are marked, and n says that none is left.
+// Once long cycles are walked most bytes are full, so a byte of 255 is passed as a whole, and only other bytes are read by bit.
 pub fn first_free(s: &[u8], from: usize, n: usize) -> usize
     requires { ⌜ from ≤ n ⌝ }
     requires { ⌜ n ≤ 8 * length (now s) ⌝ }
@@ -40,6 +50,10 @@ pub fn first_free(s: &[u8], from: usize, n: usize) -> usize
 {
     let mut i = from;
     while i < n {
+        if s[i / 8] == 255 {
+            i = past_byte(i, n);
+            continue;
+        }
         if !is_marked(s, i) {
             return i;
         }

@@ -5,9 +5,10 @@ use mathlib.Core.Path.{_≡_, sym, _∙_}
 use mathlib.Core.Logic.{by-cases}
 use mathlib.Core.Bool.{true}
 use Prim.Native.Nat.{ℕ, _-_, _≤_, _<_}
-use native.Mathlib.Decide.{ℕ-discrete}
+use native.Mathlib.Decide.{ℕ-discrete, decLt}
 use native.Mathlib.Omega.{arith}
 use Rattle.permuting.specs.Marks.{marked}
+use Rattle.permuting.proofs.Marking.{byte-marked}
 use Rattle.permuting.proofs.marks.first_free.Statement.{statement}
 use Rattle.permuting.proofs.marks.first_free.Tie as tie
 
@@ -20,6 +21,21 @@ abbrev μ-loop : tie.MeasureT-loop
 loop-holds : tie.Need-loop-holds Inv-loop μ-loop
 loop-holds c = (search needs, search needs, λ j a b. absurd (omega arith))
 
+shared-slice-read-if1 : tie.Need-shared-slice-read-if1 Inv-loop μ-loop
+shared-slice-read-if1 c = search needs
+
+past-byte-requires : tie.Need-past-byte-requires Inv-loop μ-loop
+past-byte-requires c κs = search needs
+
+loop-less : tie.Need-loop-less Inv-loop μ-loop
+loop-less c = search needs
+
+loop-again : tie.Need-loop-again Inv-loop μ-loop
+loop-again c =
+    let l = c .before .before .before .before .loop in
+    let full = byte-marked (c .before .before .before .before .before .before .args .s .now) (l .i) in
+    (search needs, omega arith, λ j a b. by-cases (decLt j (l .i)) (l .inv .2 j a) (λ q. full j (c .before .if1 .taken) (omega arith) (omega arith)))
+
 is-marked-requires : tie.Need-is-marked-requires Inv-loop μ-loop
 is-marked-requires c κs = search needs
 
@@ -29,21 +45,21 @@ returns c =
     record {
       least = omega arith;
       most = omega arith;
-      passed = c .before .before .before .loop .inv .2;
-      free = λ _. sym (m .ensures) ∙ not-true (m .result) (c .if1 .taken);
+      passed = c .before .before .before .before .before .loop .inv .2;
+      free = λ _. sym (m .ensures) ∙ not-true (m .result) (c .if2 .taken);
     }
 
 add-i : tie.Need-add-i Inv-loop μ-loop
 add-i c = search needs
 
-loop-less : tie.Need-loop-less Inv-loop μ-loop
-loop-less c = search needs
+loop-less-2 : tie.Need-loop-less-2 Inv-loop μ-loop
+loop-less-2 c = search needs
 
-loop-again : tie.Need-loop-again Inv-loop μ-loop
-loop-again c =
-    let l = c .before .before .before .loop in
+loop-again-2 : tie.Need-loop-again-2 Inv-loop μ-loop
+loop-again-2 c =
+    let l = c .before .before .before .before .before .loop in
     let m = c .before .is-marked in
-    let here = sym (m .ensures) ∙ not-false (m .result) (c .if1 .left) in
+    let here = sym (m .ensures) ∙ not-false (m .result) (c .if2 .left) in
     (omega arith, omega arith, λ j a b. by-cases (ℕ-discrete j (l .i)) (λ q. rw q here) (λ q. l .inv .2 j a (omega arith)))
 
 returns-2 : tie.Need-returns-2 Inv-loop μ-loop
@@ -61,9 +77,13 @@ first-free-spec =
     Inv-loop
     μ-loop
     loop-holds
+    shared-slice-read-if1
+    past-byte-requires
+    loop-less
+    loop-again
     is-marked-requires
     returns
     add-i
-    loop-less
-    loop-again
+    loop-less-2
+    loop-again-2
     returns-2)
