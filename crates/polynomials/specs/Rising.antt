@@ -1,7 +1,7 @@
 -- The rising products y(y + 1)…(y + n - 1), which have no negative coefficients. These are definitions.
 use mathlib.Core.Path.{_≡_}
 use mathlib.Core.List.{List, [], _∷_}
-use Prim.Native.Nat.{ℕ, zero, suc, _+_, _*_, _%_}
+use Prim.Native.Nat.{ℕ, zero, suc, _+_, _*_, _-_, _/_, _%_, _≤_}
 use lib.ListN.{getD}
 
 -- The coefficients of c + (y + n)·p(y).
@@ -13,6 +13,10 @@ times-linear n c (a ∷ p) = (c + n * a) ∷ times-linear n a p
 unfoldable pub rising : ℕ → List ℕ
 rising zero = 1 ∷ []
 rising (suc n) = times-linear n 0 (rising n)
+
+-- The coefficients of the rising products 1 to 13, of each those at the places 1 to n, one product after the other.
+pub record Rows (rows : List ℕ) : Type 0 where
+  pub place : (n j : ℕ) → 1 ≤ j → j ≤ n → n ≤ 13 → getD rows (n * (n - 1) / 2 + j - 1) 0 ≡ getD (rising n) j 0
 
 -- q is p with t times the n-th rising product added, each place modulo K.
 abbrev pub Added : ℕ → ℕ → ℕ → List ℕ → List ℕ → Type 0

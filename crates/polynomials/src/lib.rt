@@ -6,7 +6,7 @@ ghost use Prim.Native.Nat.{_+_, _*_, _%_, _≤_, _<_};
 ghost use Rattle.polynomials.specs.Polynomials.{wholes, Degree};
 ghost use Rattle.polynomials.specs.Limits.{Limits};
 ghost use Rattle.polynomials.specs.Reductions.{Remainders, Reduced};
-ghost use Rattle.polynomials.specs.Rising.{Added};
+ghost use Rattle.polynomials.specs.Rising.{Rows, Added};
 
 // (x + a·b) mod k, formed in 64 bits.
 fn add_product(k: u32, x: u32, a: u32, b: u32) -> u32
@@ -41,14 +41,14 @@ pub fn limits(k: u32) -> [u32; 14]
 }
 
 // p with t times the n-th rising product added.
-fn add_rising(k: u32, p: [u32; 14], t: u32, n: usize) -> [u32; 14]
-    requires { ⌜ (0 < k) × (k ≤ 8192) × (1 ≤ n) × (n ≤ 13) × Remainders k p ⌝ }
+fn add_rising(rows: &[u32; 91], k: u32, p: [u32; 14], t: u32, n: usize) -> [u32; 14]
+    requires { ⌜ (0 < k) × (k ≤ 8192) × (1 ≤ n) × (n ≤ 13) × Remainders k p × Rows (now rows) ⌝ }
     ensures { λ q. ⌜ Added k t n p q ⌝ }
 {
     let mut q = p;
     let mut j = 1;
     while j <= n {
-        let c = products::rising(n, j);
+        let c = products::rising(rows, n, j);
         q[j] = add_product(k, p[j], t, c);
         j += 1;
     }
@@ -62,6 +62,7 @@ pub fn reduce(k: u32, p: [u32; 14]) -> [u32; 14]
     ensures { λ q. ⌜ Reduced k (wholes p) (wholes q) ⌝ }
 {
     let m = limits(k);
+    let rows = products::rows();
     let mut q = p;
     let mut n = 14;
     while 1 < n {
@@ -69,7 +70,7 @@ pub fn reduce(k: u32, p: [u32; 14]) -> [u32; 14]
         let a = q[n];
         let limit = m[n];
         if limit <= a {
-            q = add_rising(k, q, k - (a - a % limit), n);
+            q = add_rising(&rows, k, q, k - (a - a % limit), n);
         }
     }
     q

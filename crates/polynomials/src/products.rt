@@ -3,7 +3,7 @@
 ghost use mathlib.Core.Path.{_≡_};
 ghost use Prim.Native.Nat.{_≤_};
 ghost use lib.ListN.{getD};
-ghost use Rattle.polynomials.specs.Rising.{rising};
+ghost use Rattle.polynomials.specs.Rising.{rising, Rows};
 
 const ROWS: [u32; 91] = [
     1,
@@ -99,10 +99,17 @@ const ROWS: [u32; 91] = [
     1,
 ];
 
-// The coefficient at the place j of the n-th rising product.
-pub fn rising(n: usize, j: usize) -> u32
-    requires { ⌜ (1 ≤ j) × (j ≤ n) × (n ≤ 13) ⌝ }
+// The table.
+pub fn rows() -> [u32; 91]
+    ensures { λ r. ⌜ Rows r ⌝ }
+{
+    ROWS
+}
+
+// The coefficient at the place j of the n-th rising product, out of the table.
+pub fn rising(rows: &[u32; 91], n: usize, j: usize) -> u32
+    requires { ⌜ (1 ≤ j) × (j ≤ n) × (n ≤ 13) × Rows (now rows) ⌝ }
     ensures { λ r. ⌜ r ≡ getD (rising n) j 0 ⌝ }
 {
-    ROWS[n * (n - 1) / 2 + j - 1]
+    rows[n * (n - 1) / 2 + j - 1]
 }

@@ -24,7 +24,7 @@ all-added k t n p q i below done kept = go (decLt n i)
     go (no l) = done (omega arith)
 
 abbrev Inv-loop : tie.InvT-loop
-Inv-loop k t n p q₀ j₀ q j =
+Inv-loop rows k t n p q₀ j₀ q j =
     (1 ≤ j)
     × (j ≤ n + 1)
     × (length q ≡ 14)
@@ -32,15 +32,15 @@ Inv-loop k t n p q₀ j₀ q j =
     × ((i : ℕ) → j ≤ i → getD q i 0 ≡ getD p i 0)
 
 abbrev μ-loop : tie.MeasureT-loop
-μ-loop k t n p q₀ j₀ q j = n + 1 - j
+μ-loop rows k t n p q₀ j₀ q j = n + 1 - j
 
 loop-holds : tie.Need-loop-holds Inv-loop μ-loop
 loop-holds c = (
   omega arith,
   omega arith,
   search needs,
-  λ i l. subst (λ (i : ℕ). getD (c .args .t2) i 0 ≡ (getD (c .args .t2) i 0 + c .args .t * getD (rising (c .args .n)) i 0) % c .args .k) (omega arith)
-      (sym (nothing-added (c .args .k) (c .args .t) (getD (c .args .t2) 0 0) (getD (rising (c .args .n)) 0 0) (rising-first (c .args .n) (omega arith)) (c .pre .4 0))),
+  λ i l. subst (λ (i : ℕ). getD (c .args .t3) i 0 ≡ (getD (c .args .t3) i 0 + c .args .t * getD (rising (c .args .n)) i 0) % c .args .k) (omega arith)
+      (sym (nothing-added (c .args .k) (c .args .t) (getD (c .args .t3) 0 0) (getD (rising (c .args .n)) 0 0) (rising-first (c .args .n) (omega arith)) (c .pre .4 0))),
   λ i l. refl,
 )
 
@@ -75,8 +75,8 @@ loop-again c =
       omega arith,
       omega arith,
       search needs,
-      filled-more (λ (i x : ℕ). x ≡ (getD (args .t2) i 0 + args .t * getD (rising (args .n)) i 0) % args .k) (loop .q) (loop .j) _ (omega arith) (loop .inv .3)
-          (c .add-product .ensures .0 ∙ ap (λ (x : ℕ). (getD (args .t2) (loop .j) 0 + args .t * x) % args .k) (c .before .rising .ensures)),
+      filled-more (λ (i x : ℕ). x ≡ (getD (args .t3) i 0 + args .t * getD (rising (args .n)) i 0) % args .k) (loop .q) (loop .j) _ (omega arith) (loop .inv .3)
+          (c .add-product .ensures .0 ∙ ap (λ (x : ℕ). (getD (args .t3) (loop .j) 0 + args .t * x) % args .k) (c .before .rising .ensures)),
       λ i l. getD-set-other (loop .q) (loop .j) i _ 0 (omega arith) ∙ loop .inv .4 i (omega arith),
     )
 
@@ -84,7 +84,7 @@ returns : tie.Need-returns Inv-loop μ-loop
 returns c =
     let args = c .before .before .args in
     let loop = c .before .loop in
-    λ i. all-added (args .k) (args .t) (args .n) (args .t2) (loop .q) i (c .before .before .pre .4 i) (λ l. loop .inv .3 i (omega arith)) (λ l. loop .inv .4 i (omega arith))
+    λ i. all-added (args .k) (args .t) (args .n) (args .t3) (loop .q) i (c .before .before .pre .4 i) (λ l. loop .inv .3 i (omega arith)) (λ l. loop .inv .4 i (omega arith))
 
 pub add-rising-spec : {M : Type 1} → statement M
 add-rising-spec =
