@@ -20,14 +20,16 @@ Sown k f2 r i x = (x < k) × Cong k x (term k f2 r i)
 pub record Sowing (k f2 r : ℕ) (s : List ℕ) (power j : ℕ) : Type 0 where
   pub long : length s ≡ 14
   pub places : (i : ℕ) → i < j + 1 → Sown k f2 r i (getD s i 0)
+  pub below : power < k
   pub is : Cong k power (r * ((k - 1) * (f2 * (r * r))) ^ j)
 
-pub sowing-start : (k f2 r : ℕ) (s : List ℕ) → 0 < k → length s ≡ 14 → getD s 0 0 ≡ 0 → Sowing k f2 r s r 0
+pub sowing-start : (k f2 r : ℕ) (s : List ℕ) → r < k → length s ≡ 14 → getD s 0 0 ≡ 0 → Sowing k f2 r s r 0
 unfolding term
-sowing-start k f2 r s k0 long first =
+sowing-start k f2 r s below long first =
     record {
       long = long;
       places = λ i l. subst (λ (n : ℕ). Sown k f2 r n (getD s n 0)) (omega arith) (omega arith, cong-eq first);
+      below = below;
       is = cong-eq (omega (arith, ap (λ (t : ℕ). r * t) (pow-zero ((k - 1) * (f2 * (r * r))))));
     }
 
@@ -40,12 +42,13 @@ minus k f2 r square product step e f g = whole (k - 1) (whole f2 (whole r (cong-
     whole a {b} h e = cong-eq e ⨾ cong-sym (cong-mod k (a * b)) ⨾ cong-times a h
 
 pub sowing-turn : (k f2 r step power a v next j : ℕ) (s : List ℕ) → j < 13 → Cong k step ((k - 1) * (f2 * (r * r))) → a ≡ getD catalan j 0
-    → (v ≡ power * a % k) × (v < k) → next ≡ power * step % k → Sowing k f2 r s power j → Sowing k f2 r (set s (j + 1) v) next (j + 1)
+    → (v ≡ power * a % k) × (v < k) → (next ≡ power * step % k) × (next < k) → Sowing k f2 r s power j → Sowing k f2 r (set s (j + 1) v) next (j + 1)
 unfolding term
-sowing-turn k f2 r step power a v next j s l minus ea (ev, lv) en g =
+sowing-turn k f2 r step power a v next j s l minus ea (ev, lv) (en, ln) g =
     record {
       long = length-set s (j + 1) v ∙ g .long;
       places = filled-more (Sown k f2 r) s (j + 1) v (omega (arith, g .long)) (g .places) (lv, here);
+      below = ln;
       is = cong-eq en ⨾ cong-sym (cong-mod k (power * step)) ⨾ cong-mul (g .is) minus ⨾ cong-eq grown;
     }
   where

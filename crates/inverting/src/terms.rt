@@ -1,6 +1,6 @@
 // The series that undoes f, before it is brought inside the limits.
 ghost use mathlib.Core.Path.{_≡_};
-ghost use Prim.Native.Nat.{_<_};
+ghost use Prim.Native.Nat.{_≤_, _<_};
 ghost use lib.ListN.{getD};
 ghost use Rattle.inverting.specs.Series.{catalan, Series};
 
@@ -23,14 +23,14 @@ const CATALAN: [u32; 13] = [
 // The Catalan number C(j).
 fn catalan_at(j: usize) -> u32
     requires { ⌜ j < 13 ⌝ }
-    ensures { λ r. ⌜ r ≡ getD catalan j 0 ⌝ }
+    ensures { λ r. ⌜ (r ≡ getD catalan j 0) × (r < 262144) ⌝ }
 {
     CATALAN[j]
 }
 
 // The series, of degree 13.
 pub fn series(k: u32, f2: u32, r: u32) -> [u32; 14]
-    requires { ⌜ 0 < k ⌝ }
+    requires { ⌜ (k ≤ 8192) × (f2 < k) × (r < k) ⌝ }
     ensures { λ s. ⌜ Series k f2 r s ⌝ }
 {
     let minus_one = k - 1;

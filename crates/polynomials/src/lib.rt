@@ -16,12 +16,12 @@ fn add_product(k: u32, x: u32, a: u32, b: u32) -> u32
     (((x as u64) + (a as u64) * (b as u64)) % (k as u64)) as u32
 }
 
-// a·b mod k.
+// a·b mod k, formed in 32 bits.
 pub fn times(k: u32, a: u32, b: u32) -> u32
-    requires { ⌜ 0 < k ⌝ }
+    requires { ⌜ (0 < k) × (a < 8192) × (b < 262144) ⌝ }
     ensures { λ r. ⌜ (r ≡ a * b % k) × (r < k) ⌝ }
 {
-    add_product(k, 0, a, b)
+    a * b % k
 }
 
 // The limits at the places 0 to 13. Each is the one before it, divided by what that has in common with the place, so that no

@@ -59,7 +59,7 @@ loop-again c =
       omega arith,
       sowing-turn _ _ _ _ _ _ _ _ (loop .j) (loop .s) (omega arith)
           (minus _ _ _ _ _ _ (start .before .before .times .ensures .0) (start .before .times2 .ensures .0) (start .times3 .ensures .0))
-          (c .before .before .catalan-at .ensures) (c .before .times4 .ensures) (c .times5 .ensures .0) (loop .inv .1),
+          (c .before .before .catalan-at .ensures .0) (c .before .times4 .ensures) (c .times5 .ensures) (loop .inv .1),
     )
 
 returns : tie.Need-returns Inv-loop μ-loop
