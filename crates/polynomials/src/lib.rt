@@ -3,6 +3,7 @@ mod products;
 
 ghost use mathlib.Core.Path.{_≡_};
 ghost use Prim.Native.Nat.{_+_, _*_, _%_, _≤_, _<_};
+ghost use lib.ListN.{length};
 ghost use Rattle.polynomials.specs.Polynomials.{wholes, Degree};
 ghost use Rattle.polynomials.specs.Limits.{Limits};
 ghost use Rattle.polynomials.specs.Reductions.{Remainders, Reduced};
@@ -40,19 +41,17 @@ pub fn limits(k: u32) -> [u32; 14]
     m
 }
 
-// p with t times the n-th rising product added.
-fn add_rising(rows: &[u32; 91], k: u32, p: [u32; 14], t: u32, n: usize) -> [u32; 14]
-    requires { ⌜ (0 < k) × (k ≤ 8192) × (1 ≤ n) × (n ≤ 13) × Remainders k p × Rows (now rows) ⌝ }
-    ensures { λ q. ⌜ Added k t n p q ⌝ }
+// t times the n-th rising product is added to q.
+fn add_rising(rows: &[u32; 91], k: u32, q: &mut [u32; 14], t: u32, n: usize)
+    requires { ⌜ (0 < k) × (k ≤ 8192) × (1 ≤ n) × (n ≤ 13) × Remainders k (now q) × Rows (now rows) × (length (now q) ≡ 14) ⌝ }
+    ensures { λ _. ⌜ Added k t n (now (q .entry)) (now (q .exit)) × (length (now (q .exit)) ≡ 14) ⌝ }
 {
-    let mut q = p;
     let mut j = 1;
     while j <= n {
         let c = products::rising(rows, n, j);
-        q[j] = add_product(k, p[j], t, c);
+        q[j] = add_product(k, q[j], t, c);
         j += 1;
     }
-    q
 }
 
 // p brought inside the limits, from the top place down: the limit times the rising product is 0 modulo k everywhere, so that
@@ -70,7 +69,8 @@ pub fn reduce(k: u32, p: [u32; 14]) -> [u32; 14]
         let a = q[n];
         let limit = m[n];
         if limit <= a {
-            q = add_rising(&rows, k, q, k - (a - a % limit), n);
+            let t = k - (a - a % limit);
+            add_rising(&rows, k, &mut q, t, n);
         }
     }
     q

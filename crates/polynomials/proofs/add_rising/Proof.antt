@@ -1,4 +1,4 @@
--- `add_rising` meets its contract: the places before j are done, and the others still those of p.
+-- `add_rising` meets its contract: the places before j are done, and the others still those at entry.
 use mathlib.Core.Path.{_≡_, refl, sym, ap, subst, _∙_}
 use Prim.Native.Nat.{ℕ, _+_, _-_, _*_, _%_, _≤_, _<_}
 use native.Mathlib.Omega.{arith}
@@ -24,23 +24,23 @@ all-added k t n p q i below done kept = go (decLt n i)
     go (no l) = done (omega arith)
 
 abbrev Inv-loop : tie.InvT-loop
-Inv-loop rows k t n p q₀ j₀ q j =
+Inv-loop rows k q₀ t n j₀ q j =
     (1 ≤ j)
     × (j ≤ n + 1)
     × (length q ≡ 14)
-    × ((i : ℕ) → i < j → getD q i 0 ≡ (getD p i 0 + t * getD (rising n) i 0) % k)
-    × ((i : ℕ) → j ≤ i → getD q i 0 ≡ getD p i 0)
+    × ((i : ℕ) → i < j → getD q i 0 ≡ (getD q₀ i 0 + t * getD (rising n) i 0) % k)
+    × ((i : ℕ) → j ≤ i → getD q i 0 ≡ getD q₀ i 0)
 
 abbrev μ-loop : tie.MeasureT-loop
-μ-loop rows k t n p q₀ j₀ q j = n + 1 - j
+μ-loop rows k q₀ t n j₀ q j = n + 1 - j
 
 loop-holds : tie.Need-loop-holds Inv-loop μ-loop
 loop-holds c = (
   omega arith,
   omega arith,
-  search needs,
-  λ i l. subst (λ (i : ℕ). getD (c .args .t3) i 0 ≡ (getD (c .args .t3) i 0 + c .args .t * getD (rising (c .args .n)) i 0) % c .args .k) (omega arith)
-      (sym (nothing-added (c .args .k) (c .args .t) (getD (c .args .t3) 0 0) (getD (rising (c .args .n)) 0 0) (rising-first (c .args .n) (omega arith)) (c .pre .4 0))),
+  c .pre .6,
+  λ i l. subst (λ (i : ℕ). getD (c .args .q .now) i 0 ≡ (getD (c .args .q .now) i 0 + c .args .t * getD (rising (c .args .n)) i 0) % c .args .k) (omega arith)
+      (sym (nothing-added (c .args .k) (c .args .t) (getD (c .args .q .now) 0 0) (getD (rising (c .args .n)) 0 0) (rising-first (c .args .n) (omega arith)) (c .pre .4 0))),
   λ i l. refl,
 )
 
@@ -50,8 +50,8 @@ rising-requires c κs = search needs
 mul-add-product : tie.Need-mul-add-product Inv-loop μ-loop
 mul-add-product c = search needs
 
-array-read-add-product : tie.Need-array-read-add-product Inv-loop μ-loop
-array-read-add-product c = search needs
+element-copy-out-add-product : tie.Need-element-copy-out-add-product Inv-loop μ-loop
+element-copy-out-add-product c = search needs
 
 add-product-requires : tie.Need-add-product-requires Inv-loop μ-loop
 add-product-requires c κs = search needs
@@ -59,8 +59,8 @@ add-product-requires c κs = search needs
 mul-q : tie.Need-mul-q Inv-loop μ-loop
 mul-q c = search needs
 
-array-write-q : tie.Need-array-write-q Inv-loop μ-loop
-array-write-q c = search needs
+element-write-q : tie.Need-element-write-q Inv-loop μ-loop
+element-write-q c = search needs
 
 add-j : tie.Need-add-j Inv-loop μ-loop
 add-j c = search needs
@@ -70,23 +70,27 @@ loop-less c = search needs
 
 loop-again : tie.Need-loop-again Inv-loop μ-loop
 loop-again c =
-    let args = c .before .before .before .before .args in
-    let loop = c .before .before .before .loop in (
+    let args = c .before .before .before .before .before .args in
+    let loop = c .before .before .before .before .loop in (
       omega arith,
       omega arith,
       search needs,
-      filled-more (λ (i x : ℕ). x ≡ (getD (args .t3) i 0 + args .t * getD (rising (args .n)) i 0) % args .k) (loop .q) (loop .j) _ (omega arith) (loop .inv .3)
-          (c .add-product .ensures .0 ∙ ap (λ (x : ℕ). (getD (args .t3) (loop .j) 0 + args .t * x) % args .k) (c .before .rising .ensures)),
+      filled-more (λ (i x : ℕ). x ≡ (getD (args .q .now) i 0 + args .t * getD (rising (args .n)) i 0) % args .k) (loop .q) (loop .j) _ (omega arith) (loop .inv .3)
+          (c .add-product .ensures .0
+          ∙ ap (λ (x : ℕ). (x + args .t * c .before .before .rising .result) % args .k) (loop .inv .4 (loop .j) (omega arith))
+          ∙ ap (λ (x : ℕ). (getD (args .q .now) (loop .j) 0 + args .t * x) % args .k) (c .before .before .rising .ensures)),
       λ i l. getD-set-other (loop .q) (loop .j) i _ 0 (omega arith) ∙ loop .inv .4 i (omega arith),
     )
 
 returns : tie.Need-returns Inv-loop μ-loop
 returns c =
     let args = c .before .before .args in
-    let loop = c .before .loop in
-    λ i. all-added (args .k) (args .t) (args .n) (args .t3) (loop .q) i (c .before .before .pre .4 i) (λ l. loop .inv .3 i (omega arith)) (λ l. loop .inv .4 i (omega arith))
+    let loop = c .before .loop in (
+      λ i. all-added (args .k) (args .t) (args .n) (args .q .now) (loop .q) i (c .before .before .pre .4 i) (λ l. loop .inv .3 i (omega arith)) (λ l. loop .inv .4 i (omega arith)),
+      loop .inv .2,
+    )
 
 pub add-rising-spec : {M : Type 1} → statement M
 add-rising-spec =
     tie.close
-    (tie.spec Inv-loop μ-loop loop-holds rising-requires mul-add-product array-read-add-product add-product-requires mul-q array-write-q add-j loop-less loop-again returns)
+    (tie.spec Inv-loop μ-loop loop-holds rising-requires mul-add-product element-copy-out-add-product add-product-requires mul-q element-write-q add-j loop-less loop-again returns)
