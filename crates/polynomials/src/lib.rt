@@ -9,12 +9,12 @@ ghost use Rattle.polynomials.specs.Limits.{Limits};
 ghost use Rattle.polynomials.specs.Reductions.{Remainders, Reduced};
 ghost use Rattle.polynomials.specs.Rising.{Rows, Added};
 
-// (x + a·b) mod k, formed in 64 bits.
+// (x + a·b) mod k. b is brought below k first, so that 32 bits do.
 fn add_product(k: u32, x: u32, a: u32, b: u32) -> u32
-    requires { ⌜ 0 < k ⌝ }
+    requires { ⌜ (0 < k) × (k ≤ 8192) × (x < k) × (a ≤ k) ⌝ }
     ensures { λ r. ⌜ (r ≡ (x + a * b) % k) × (r < k) ⌝ }
 {
-    (((x as u64) + (a as u64) * (b as u64)) % (k as u64)) as u32
+    (x + a * (b % k)) % k
 }
 
 // a·b mod k, formed in 32 bits.
@@ -43,7 +43,7 @@ pub fn limits(k: u32) -> [u32; 14]
 
 // t times the n-th rising product is added to q.
 fn add_rising(rows: &[u32; 91], k: u32, q: &mut [u32; 14], t: u32, n: usize)
-    requires { ⌜ (0 < k) × (k ≤ 8192) × (1 ≤ n) × (n ≤ 13) × Remainders k (now q) × Rows (now rows) × (length (now q) ≡ 14) ⌝ }
+    requires { ⌜ (0 < k) × (k ≤ 8192) × (t ≤ k) × (1 ≤ n) × (n ≤ 13) × Remainders k (now q) × Rows (now rows) × (length (now q) ≡ 14) ⌝ }
     ensures { λ _. ⌜ Added k t n (now (q .entry)) (now (q .exit)) × (length (now (q .exit)) ≡ 14) ⌝ }
 {
     let mut j = 1;

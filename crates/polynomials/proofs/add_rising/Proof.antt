@@ -38,9 +38,9 @@ loop-holds : tie.Need-loop-holds Inv-loop μ-loop
 loop-holds c = (
   omega arith,
   omega arith,
-  c .pre .6,
+  c .pre .7,
   λ i l. subst (λ (i : ℕ). getD (c .args .q .now) i 0 ≡ (getD (c .args .q .now) i 0 + c .args .t * getD (rising (c .args .n)) i 0) % c .args .k) (omega arith)
-      (sym (nothing-added (c .args .k) (c .args .t) (getD (c .args .q .now) 0 0) (getD (rising (c .args .n)) 0 0) (rising-first (c .args .n) (omega arith)) (c .pre .4 0))),
+      (sym (nothing-added (c .args .k) (c .args .t) (getD (c .args .q .now) 0 0) (getD (rising (c .args .n)) 0 0) (rising-first (c .args .n) (omega arith)) (c .pre .5 0))),
   λ i l. refl,
 )
 
@@ -54,7 +54,9 @@ element-copy-out-add-product : tie.Need-element-copy-out-add-product Inv-loop μ
 element-copy-out-add-product c = search needs
 
 add-product-requires : tie.Need-add-product-requires Inv-loop μ-loop
-add-product-requires c κs = search needs
+add-product-requires c κs =
+    let at = c .before .before .before in
+    omega (arith, at .loop .inv .4 (at .loop .j) (omega arith), at .before .pre .5 (at .loop .j))
 
 mul-q : tie.Need-mul-q Inv-loop μ-loop
 mul-q c = search needs
@@ -86,7 +88,7 @@ returns : tie.Need-returns Inv-loop μ-loop
 returns c =
     let args = c .before .before .args in
     let loop = c .before .loop in (
-      λ i. all-added (args .k) (args .t) (args .n) (args .q .now) (loop .q) i (c .before .before .pre .4 i) (λ l. loop .inv .3 i (omega arith)) (λ l. loop .inv .4 i (omega arith)),
+      λ i. all-added (args .k) (args .t) (args .n) (args .q .now) (loop .q) i (c .before .before .pre .5 i) (λ l. loop .inv .3 i (omega arith)) (λ l. loop .inv .4 i (omega arith)),
       loop .inv .2,
     )
 

@@ -58,7 +58,7 @@ sub-t-2 c =
 add-rising-requires : tie.Need-add-rising-requires Inv-loop μ-loop
 add-rising-requires c κs =
     let at = c .before .before .before .before in
-    (omega arith, omega arith, omega arith, omega arith, at .loop .inv .2 .below, at .before .rows .ensures, at .loop .inv .3)
+    (omega arith, omega arith, omega arith, omega arith, omega arith, at .loop .inv .2 .below, at .before .rows .ensures, at .loop .inv .3)
 
 loop-less : tie.Need-loop-less Inv-loop μ-loop
 loop-less c = search needs
