@@ -2,7 +2,7 @@
 use mathlib.Core.Path.{_≡_, refl, sym, ap, _∙_, subst}
 use mathlib.Core.Logic.{_≢_}
 use Prim.Native.Nat.{ℕ, _+_, _-_, _*_, _/_, _%_, _≤_, _<_, _∣_}
-use native.Mathlib.Nat.{dvd-mul-right, dvd-mul-right-of-dvd, div-add-mod, mod-lt, le-of-dvd}
+use native.Mathlib.Nat.{mul-le-mul, dvd-mul-right, dvd-mul-right-of-dvd, div-add-mod, mod-lt, le-of-dvd}
 use native.Mathlib.Decide.{decLt}
 use native.Mathlib.Omega.{arith}
 use Rattle.numbers.specs.Congruence.{Cong}
@@ -13,6 +13,13 @@ use Rattle.triples.specs.Shuffles.{f, Permutes}
 -- f before the remainder
 abbrev pub sum : Triple → ℕ → ℕ
 sum t x = t .f1 * x + t .f2 * (x * x)
+
+-- both of its parts are small
+pub line-small : (a x : ℕ) → a ≤ 8191 → x ≤ 8191 → a * x ≤ 8191 * 8191
+line-small a x h l = mul-le-mul {n₁ = a} {m₁ = x} h l
+
+pub square-small : (a x : ℕ) → a ≤ 8191 → x ≤ 8191 → a * (x * x) ≤ 8191 * (8191 * 8191)
+square-small a x h l = mul-le-mul {n₁ = a} {m₁ = x * x} h (line-small x x l l)
 
 -- f1 + f2·(x + y), at y = x + d
 abbrev pub slope : Triple → ℕ → ℕ → ℕ

@@ -1,7 +1,11 @@
 // What a triple of numbers means, and which triples are shuffles.
 mod listing;
+mod quick;
 
 pub use listing::fill;
+pub use quick::Scaled;
+pub use quick::prepare;
+pub use quick::quick_place;
 ghost use mathlib.Core.Path.{_≡_};
 ghost use Prim.Native.Nat.{_<_};
 ghost use Rattle.numbers.specs.Divisors.{Decides};

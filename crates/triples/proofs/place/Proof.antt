@@ -1,17 +1,12 @@
 -- `place` meets its contract: each factor is below 8192, so that the sum is far below 2 to the 64th.
 use mathlib.Core.Path.{refl}
-use Prim.Native.Nat.{ℕ, _+_, _*_, _≤_}
-use native.Mathlib.Nat.{mul-le-mul, mod-lt}
+use Prim.Native.Nat.{_+_, _*_}
+use native.Mathlib.Nat.{mod-lt}
 use native.Mathlib.Omega.{arith}
 use borrow.Author.Needs.{needs}
+use Rattle.triples.proofs.Values.{line-small, square-small}
 use Rattle.triples.proofs.place.Statement.{statement}
 use Rattle.triples.proofs.place.Tie as tie
-
-line-small : (a x : ℕ) → a ≤ 8191 → x ≤ 8191 → a * x ≤ 8191 * 8191
-line-small a x h l = mul-le-mul {n₁ = a} {m₁ = x} h l
-
-square-small : (a x : ℕ) → a ≤ 8191 → x ≤ 8191 → a * (x * x) ≤ 8191 * (8191 * 8191)
-square-small a x h l = mul-le-mul {n₁ = a} {m₁ = x * x} h (line-small x x l l)
 
 cast-first : tie.Need-cast-first
 cast-first c = search needs
