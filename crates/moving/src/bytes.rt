@@ -12,13 +12,14 @@ pub fn interleave_u8(t: Triple, block: &mut [u8], scratch: &mut [u8])
     ensures { λ _. ⌜ InterleavedBy t 0 (now (block .entry)) (now (block .exit)) (now (scratch .entry)) (now (scratch .exit)) ⌝ }
 {
     let k = t.k as usize;
+    let scaled = triples::prepare(t);
     wipe(t, scratch);
     let mut start = marks::first_free(scratch, 0, k);
     while start < k { // a turn for each cycle
         let first = block[start];
         let mut i = start;
         'cycle: loop {
-            let next = step(t, i, scratch);
+            let next = step(t, scaled, i, scratch);
             if next == start {
                 block[i] = first;
                 break 'cycle;
@@ -38,13 +39,14 @@ pub fn deinterleave_u8(t: Triple, block: &mut [u8], scratch: &mut [u8])
     ensures { λ _. ⌜ DeinterleavedBy t 0 (now (block .entry)) (now (block .exit)) (now (scratch .entry)) (now (scratch .exit)) ⌝ }
 {
     let k = t.k as usize;
+    let scaled = triples::prepare(t);
     wipe(t, scratch);
     let mut start = marks::first_free(scratch, 0, k);
     while start < k {
         let mut carried = block[start];
         let mut i = start;
         'cycle: loop {
-            let next = step(t, i, scratch);
+            let next = step(t, scaled, i, scratch);
             let held = block[next];
             block[next] = carried;
             if next == start {

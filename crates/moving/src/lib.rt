@@ -6,7 +6,9 @@ ghost use Prim.Native.Nat.{_+_, _/_, _≤_, _<_};
 ghost use lib.ListN.{length};
 ghost use Rattle.permuting.specs.Marks.{Cleared, Stepped};
 ghost use Rattle.triples.specs.Shuffles.{f, InRange};
+ghost use Rattle.triples.specs.Quick.{Prepared};
 use permuting::marks;
+use triples::Scaled;
 use triples::Triple;
 
 // The bytes that hold a mark for each place, and no byte more: the rest of the scratch is the caller's.
@@ -20,12 +22,12 @@ pub fn wipe(t: Triple, scratch: &mut [u8])
 }
 
 // A place is marked as the walk leaves it, so that no later cycle begins there.
-pub fn step(t: Triple, i: usize, scratch: &mut [u8]) -> usize
-    requires { ⌜ InRange t ⌝ }
+pub fn step(t: Triple, scaled: Scaled, i: usize, scratch: &mut [u8]) -> usize
+    requires { ⌜ Prepared t scaled ⌝ }
     requires { ⌜ i < t .k ⌝ }
     requires { ⌜ i / 8 < length (now scratch) ⌝ }
     ensures { λ r. ⌜ Stepped (f t) i r (now (scratch .entry)) (now (scratch .exit)) ⌝ }
 {
     marks::mark(scratch, i);
-    triples::place(t, i)
+    triples::quick_place(t, scaled, i)
 }

@@ -13,13 +13,14 @@ pub fn interleave_i16(t: Triple, block: &mut [i16], scratch: &mut [u8])
     ensures { λ _. ⌜ InterleavedBy t (pos 0) (now (block .entry)) (now (block .exit)) (now (scratch .entry)) (now (scratch .exit)) ⌝ }
 {
     let k = t.k as usize;
+    let scaled = triples::prepare(t);
     wipe(t, scratch);
     let mut start = marks::first_free(scratch, 0, k);
     while start < k { // a turn for each cycle
         let first = block[start];
         let mut i = start;
         'cycle: loop {
-            let next = step(t, i, scratch);
+            let next = step(t, scaled, i, scratch);
             if next == start {
                 block[i] = first;
                 break 'cycle;
@@ -39,13 +40,14 @@ pub fn deinterleave_i16(t: Triple, block: &mut [i16], scratch: &mut [u8])
     ensures { λ _. ⌜ DeinterleavedBy t (pos 0) (now (block .entry)) (now (block .exit)) (now (scratch .entry)) (now (scratch .exit)) ⌝ }
 {
     let k = t.k as usize;
+    let scaled = triples::prepare(t);
     wipe(t, scratch);
     let mut start = marks::first_free(scratch, 0, k);
     while start < k {
         let mut carried = block[start];
         let mut i = start;
         'cycle: loop {
-            let next = step(t, i, scratch);
+            let next = step(t, scaled, i, scratch);
             let held = block[next];
             block[next] = carried;
             if next == start {

@@ -97,6 +97,7 @@ module _ (k m c : ℕ) (u : Rounded k m c) where
 pub prepared : (t : Triple) (m c : ℕ) → InRange t → Rounded (t .k) m c → Prepared t (record { f1 = t .f1 * m; f2 = t .f2 * m; shift = c })
 prepared t m c r u =
     record {
+      range = r;
       first = scaled-lt (t .k) m c u (t .f1) (r .first);
       second = scaled-lt (t .k) m c u (t .f2) (r .second);
       last = u .shift;

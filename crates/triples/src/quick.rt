@@ -41,9 +41,7 @@ pub fn prepare(t: Triple) -> Scaled
 
 // f(x): the part of SCALE that v/K leaves over its whole turns, times K.
 pub fn quick_place(t: Triple, scaled: Scaled, x: usize) -> usize
-    requires { ⌜ InRange t ⌝ }
-    requires { ⌜ Prepared t scaled ⌝ }
-    requires { ⌜ x < t .k ⌝ }
+    requires { ⌜ Prepared t scaled × (x < t .k) ⌝ }
     ensures { λ r. ⌜ (r ≡ f t x) × (r < t .k) ⌝ }
 {
     let at = x as u64;

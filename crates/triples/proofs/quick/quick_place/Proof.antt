@@ -32,7 +32,7 @@ returns : tie.Need-returns
 returns c =
     let s = c .before .before .before .before in
     let a = s .args in
-    let e = s .pre .1 .0 .places (a .x) (omega arith) in
+    let e = s .pre .0 .places (a .x) (omega arith) in
     (e, omega (arith, e, mod-lt (a .t .f1 * a .x + a .t .f2 * (a .x * a .x)) {m = a .t .k} (omega arith)))
 
 pub quick-place-spec : {M : Type 1} → statement M
