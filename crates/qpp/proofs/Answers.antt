@@ -1,10 +1,12 @@
 -- Laws of the table: one number is given, and no second answer fits.
-use mathlib.Core.Path.{_≡_, sym, subst, _∙_}
+use mathlib.Core.Path.{_≡_, ap, sym, subst, _∙_}
 use mathlib.Core.Logic.{_≢_, _⊎_, inl, inr}
+use mathlib.Core.Bool.{true}
 use mathlib.Core.List.{List, [], _∷_}
 use Prim.Native.Nat.{ℕ}
 use native.Mathlib.Decide.{ℕ-discrete}
 use native.Mathlib.Omega.{arith}
+use lib.Dec.{T, eqb, eqb→eq}
 use Rattle.qpp.specs.Refusals.{Test, First, Answer}
 
 -- one number is given
@@ -14,6 +16,10 @@ first-one (test ∷ more) (inl p) (inl q) = p .0 ∙ sym (q .0)
 first-one (test ∷ more) (inl p) (inr q) = absurd (q .0 (p .1))
 first-one (test ∷ more) (inr p) (inl q) = absurd (p .0 (q .1))
 first-one (test ∷ more) (inr p) (inr q) = first-one more (p .1) (q .1)
+
+-- whether it is 0 tells whether no test applies
+pub none-applies : (tests : List Test) (n : ℕ) → First tests n → (eqb n 0 ≡ true → First tests 0) × (First tests 0 → eqb n 0 ≡ true)
+none-applies tests n f = (λ e. subst (λ (m : ℕ). First tests m) (eqb→eq n 0 (subst T (sym e) tt)) f, λ z. ap (λ (m : ℕ). eqb m 0) (first-one tests f z))
 
 -- two answers to the same tests have the same number, and whatever is the same in two answers that are done, and in two that are
 -- refused, is the same

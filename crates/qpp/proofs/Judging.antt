@@ -1,6 +1,6 @@
 -- What acceptance means, for it and for every call that begins with it.
 use mathlib.Core.Path.{_≡_, refl, sym, _∙_}
-use mathlib.Core.Logic.{_≢_, _⊎_, inl, inr, ⊎-elim}
+use mathlib.Core.Logic.{_≢_, _⊎_, inl, inr, ⊎-elim, by-cases}
 use mathlib.Core.List.{List, [], _∷_}
 use Prim.Native.Nat.{ℕ, _+_, _*_, _/_, _≤_, _<_}
 use native.Mathlib.Nat.{mod-lt}
@@ -9,7 +9,7 @@ use native.Mathlib.Omega.{arith}
 use Rattle.triples.specs.declared.Triple.{Triple}
 use Rattle.triples.specs.Shuffles.{InRange, Permutes, Shuffle}
 use Rattle.qpp.proofs.Answers.{answered, refusing}
-use Rattle.qpp.specs.Refusals.{Test, First, Answer, range-then, shuffle-then, no-length, no-coefficient, no-shuffle, no-block, no-scratch}
+use Rattle.qpp.specs.Refusals.{Test, First, Answer, range-then, shuffle-then, no-length, no-coefficient, no-shuffle, no-block, no-scratch, no-position}
 use Rattle.qpp.specs.Moving.{block-tests}
 use Rattle.moving.specs.Moves.{Ready}
 
@@ -65,6 +65,13 @@ pub ranged : {t : Triple} {n : ℕ} → First (range-then t []) n → n ≡ 0 �
 ranged (inl p) z = absurd (omega (arith, p .0))
 ranged (inr (p, inl q)) z = absurd (omega (arith, q .0))
 ranged {t} (inr (p, inr (q, e))) z = in-range t p q
+
+-- and, where a position is asked for too, only to one of its positions
+pub positioned : {t : Triple} {x n : ℕ} → First (range-then t (no-position t x ∷ [])) n → n ≡ 0 → InRange t × (x < t .k)
+positioned (inl p) z = absurd (omega (arith, p .0))
+positioned (inr (p, inl q)) z = absurd (omega (arith, q .0))
+positioned (inr (p, inr (q, inl r))) z = absurd (omega (arith, r .0))
+positioned {t} {x} (inr (p, inr (q, inr (r, e)))) z = (in-range t p q, by-cases (decLt x (t .k)) (λ h. h) (λ h. absurd (r (omega arith))))
 
 -- a refusal stays one, whatever tests follow
 pub range-stays : {t : Triple} {n : ℕ} (more : List Test) → First (range-then t []) n → n ≢ 0 → First (range-then t more) n

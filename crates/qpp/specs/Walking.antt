@@ -7,7 +7,7 @@ use Rattle.triples.specs.Shuffles.{triple, f}
 use Rattle.qpp.specs.declared.walker.Walker.{Walker}
 use Rattle.qpp.specs.declared.walker.Start.{Start}
 use Rattle.qpp.specs.declared.walker.Step.{Step}
-use Rattle.qpp.specs.Refusals.{Answer, range-then, shuffle-then, no-position}
+use Rattle.qpp.specs.Refusals.{Test, Answer, range-then, shuffle-then, no-position}
 
 -- The walker of a triple at a position.
 abbrev pub walker : Triple → ℕ → Walker
@@ -24,10 +24,14 @@ triple-of w = triple (w .k) (w .f1) (w .f2)
 abbrev pub Started : Triple → Start → Type 0
 Started t r = Answer (shuffle-then t []) (r .number) (r .walker ≡ walker t 0) (r .walker ≡ nowhere)
 
+-- The tests of a step, in their order.
+abbrev pub step-tests : Walker → List Test
+step-tests w = range-then (triple-of w) (no-position (triple-of w) (w .at) ∷ [])
+
 -- A step hands out the present address together with the walker moved on; after K-1 comes 0.
 abbrev pub Stepped : Walker → Step → Type 0
 Stepped w r =
-    Answer (range-then (triple-of w) (no-position (triple-of w) (w .at) ∷ [])) (r .number)
+    Answer (step-tests w) (r .number)
     ((r .address ≡ f (triple-of w) (w .at)) × (r .walker ≡ walker (triple-of w) ((w .at + 1) % w .k)))
     ((r .address ≡ 0) × (r .walker ≡ nowhere))
 

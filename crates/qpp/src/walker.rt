@@ -5,9 +5,11 @@ use crate::shuffles::accept;
 use crate::shuffles::range;
 use triples::Triple;
 ghost use mathlib.Core.Path.{_≡_};
+ghost use mathlib.Core.Bool.{true};
 ghost use Prim.Native.Nat.{_+_, _%_, _<_};
 ghost use Rattle.triples.specs.Shuffles.{triple};
-ghost use Rattle.qpp.specs.Walking.{nowhere, Started, Stepped};
+ghost use Rattle.qpp.specs.Refusals.{First};
+ghost use Rattle.qpp.specs.Walking.{nowhere, step-tests, Started, Stepped};
 
 // A position of a triple. A walker made by hand may hold anything.
 #[repr(C)]
@@ -53,6 +55,27 @@ fn stopped(number: u32) -> Step
     }
 }
 
+// The number of a step.
+fn standing(w: Walker) -> u32
+    ensures { λ number. ⌜ First (step-tests w) number ⌝ }
+{
+    let number = range(w.k, w.f1, w.f2);
+    if number != DONE {
+        return number;
+    }
+    if w.at >= w.k {
+        return NO_POSITION;
+    }
+    DONE
+}
+
+// Is the number 0? A step asks this first and the number only if it refuses, so that a walk that goes on makes no refusal ready.
+fn stands(w: Walker) -> bool
+    ensures { λ r. ⌜ (r ≡ true → First (step-tests w) 0) × (First (step-tests w) 0 → r ≡ true) ⌝ }
+{
+    standing(w) == DONE
+}
+
 // The position that comes after `at`: 0 after the last.
 fn after(k: u32, at: u32) -> u32
     requires { ⌜ at < k ⌝ }
@@ -84,12 +107,8 @@ impl Walker {
     pub fn step(self) -> Step
         ensures { λ r. ⌜ Stepped self r ⌝ }
     {
-        let number = range(self.k, self.f1, self.f2);
-        if number != DONE {
-            return stopped(number);
-        }
-        if self.at >= self.k {
-            return stopped(NO_POSITION);
+        if !stands(self) {
+            return stopped(standing(self));
         }
         let t = Triple {
             k: self.k,
