@@ -1,4 +1,4 @@
--- Why a multiplication finds the remainder: v/K is taken as a fraction of the scale, near enough that its whole parts are right.
+-- Why products alone find the remainder: v/k is taken in parts of the scale, so closely that its whole part and v % k come out right.
 use mathlib.Core.Path.{_≡_, refl, sym, ap, _∙_}
 use Prim.Native.Nat.{ℕ, _+_, _-_, _*_, _/_, _%_, _≤_, _<_}
 use native.Mathlib.Nat.{mod-lt, mod-add-div', div-add-mod', mul-le-mul, mul-le-mul-right, le-div-iff-mul-le, le-of-mul-le-mul-right, lt-of-mul-lt-mul-right, div-eq-of-lt-le}
@@ -9,7 +9,7 @@ use Rattle.triples.specs.Shuffles.{InRange}
 use Rattle.triples.specs.Quick.{scale, Prepared}
 use Rattle.triples.proofs.Values.{line-small, square-small}
 
--- n is v·M/k, rounded up by less than M/k: then n has the whole turns of v, and what is over of it is what is over of v
+-- v is q·k + r, and n is v·M/k or above it, by less than M/k: then n / M is q, and n % M gives r
 module _ (M k q r n w : ℕ) (pos : 0 < k) (less : r < k) (near : n * k ≡ (q * k + r) * M + w) (small : w < M) where
   room : (r + 1) * M ≤ k * M
   room = mul-le-mul-right {m = r + 1} {n = k} M (omega arith)
@@ -36,12 +36,13 @@ fraction M k v n w pos near small =
 abbrev top : ℕ
 top = 8191 * 8191 + 8191 * (8191 * 8191)
 
--- m is near enough to scale/k: with c added, the product is at or above the fraction, by less than one part in k
+-- m is near enough to scale/k: v·m + c is v·scale/k or above it, by less than scale/k
 pub record Rounded (k m c : ℕ) : Type 0 where
   pub near : (v : ℕ) → v ≤ top → (w : ℕ) × ((v * m + c) * k ≡ v * scale + w) × (w < scale)
   pub product : k * m < scale + m
   pub shift : c < scale
 
+-- e is what the multiplier times k is off the scale: at most half of k
 module _ (k e : ℕ) (high : k ≤ 8192) (half : 2 * e ≤ k) where
   error : (v : ℕ) → v ≤ top → e * v ≤ 4096 * top
   error v h = mul-le-mul {n₁ = e} {m₁ = v} {n₂ = 4096} {m₂ = top} (omega arith) h
@@ -64,6 +65,7 @@ module _ (k e : ℕ) (high : k ≤ 8192) (half : 2 * e ≤ k) where
         shift = omega arith;
       }
 
+-- the scale over 8192
 pub large : (k : ℕ) → 0 < k → k ≤ 8192 → 274877906944 ≤ scale / k
 large k pos high = le-div-iff-mul-le {k = k} {x = 274877906944} {y = scale} pos .1 (omega arith)
 

@@ -1,4 +1,4 @@
-// The map with no division by K: once for a triple its coefficients are scaled, and then a place is the whole part of a fraction.
+// The map with no division for each place: the coefficients are scaled once, and then a place is found by products alone.
 use crate::Triple;
 ghost use mathlib.Core.Path.{_≡_};
 ghost use Prim.Native.Nat.{_<_};
@@ -8,13 +8,14 @@ ghost use Rattle.triples.specs.Quick.{Prepared};
 // 2 to the 51st: with it no product below leaves 64 bits, and a remainder or a quotient by it is a mask or a shift.
 const SCALE: u64 = 2251799813685248;
 
-// The coefficients times SCALE/K, to the nearest number, and what is added against the rounding.
+// The coefficients times a whole number near SCALE/K, and what is added where that number is too small.
 pub struct Scaled {
     pub f1: u64,
     pub f2: u64,
     pub shift: u64,
 }
 
+// To the nearest whole number: always down, the error would grow past what the shift makes good.
 pub fn prepare(t: Triple) -> Scaled
     requires { ⌜ InRange t ⌝ }
     ensures { λ r. ⌜ Prepared t r ⌝ }
@@ -39,7 +40,7 @@ pub fn prepare(t: Triple) -> Scaled
     }
 }
 
-// f(x): the part of SCALE that v/K leaves over its whole turns, times K.
+// f(x): of f1·x + f2·x², in parts of which SCALE make K, what is left of the multiples of K.
 pub fn quick_place(t: Triple, scaled: Scaled, x: usize) -> usize
     requires { ⌜ Prepared t scaled × (x < t .k) ⌝ }
     ensures { λ r. ⌜ (r ≡ f t x) × (r < t .k) ⌝ }
