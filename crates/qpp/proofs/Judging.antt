@@ -105,7 +105,20 @@ stays-refused more (inr (p, inl q)) ne = inr (p, inl q)
 stays-refused more (inr (p, inr (q, inl r))) ne = inr (p, inr (q, inl r))
 stays-refused more (inr (p, inr (q, inr (r, e)))) ne = absurd (ne e)
 
--- ---- the answers of a call that begins with these tests
+-- ---- the answers of a call that begins with the range
+
+pub refuse-range : {t : Triple} {more : List Test} {n m : ℕ} {Done Nothing : Type 0} → m ≡ n → First (range-then t []) n → n ≢ 0 → Nothing
+    → Answer (range-then t more) m Done Nothing
+refuse-range {t} {more} e first ne nothing = refusing e (range-stays more first ne) ne nothing
+
+pub refuse-in-range : {t : Triple} {more : List Test} {n m : ℕ} {Done Nothing : Type 0} → m ≡ n → InRange t → First more n → n ≢ 0 → Nothing
+    → Answer (range-then t more) m Done Nothing
+refuse-in-range {t} {more} e r first ne nothing = refusing e (range-passes more r first) ne nothing
+
+pub answer-in-range : {t : Triple} {more : List Test} {Done Nothing : Type 0} → InRange t → First more 0 → Done → Answer (range-then t more) 0 Done Nothing
+answer-in-range {t} {more} r first done = answered (range-passes more r first) done
+
+-- ---- and of one that begins with a shuffle
 
 -- the triple is refused
 pub refuse-triple : {t : Triple} {more : List Test} {n m : ℕ} {Done Nothing : Type 0} → m ≡ n → First (shuffle-then t []) n → n ≢ 0 → Nothing
@@ -115,11 +128,11 @@ refuse-triple {t} {more} e first ne nothing = refusing e (stays-refused more fir
 -- the triple is accepted, and one of the tests that follow refuses
 pub refuse-later : {t : Triple} {more : List Test} {n m : ℕ} {Done Nothing : Type 0} → m ≡ n → Shuffle t → First more n → n ≢ 0 → Nothing
     → Answer (shuffle-then t more) m Done Nothing
-refuse-later {t} {more} e s first ne nothing = refusing e (shuffle-passes more s first) ne nothing
+refuse-later e s first ne nothing = refuse-in-range e (s .range) (inr ((λ not. not (s .permutes)), first)) ne nothing
 
 -- no test refuses
 pub answer-all : {t : Triple} {more : List Test} {Done Nothing : Type 0} → Shuffle t → First more 0 → Done → Answer (shuffle-then t more) 0 Done Nothing
-answer-all {t} {more} s first done = answered (shuffle-passes more s first) done
+answer-all s first done = answer-in-range (s .range) (inr ((λ not. not (s .permutes)), first)) done
 
 -- ---- and of one that moves a block
 
@@ -156,16 +169,3 @@ movable-ready {t} block scratch n first z =
         never (inl p) = absurd (omega (arith, p .0))
         never (inr (p, inl q)) = absurd (omega (arith, q .0))
         never (inr (p, inr (q, e))) = absurd (q h)
-
--- ---- and of one that asks for the range alone
-
-pub refuse-range : {t : Triple} {more : List Test} {n m : ℕ} {Done Nothing : Type 0} → m ≡ n → First (range-then t []) n → n ≢ 0 → Nothing
-    → Answer (range-then t more) m Done Nothing
-refuse-range {t} {more} e first ne nothing = refusing e (range-stays more first ne) ne nothing
-
-pub refuse-in-range : {t : Triple} {more : List Test} {n m : ℕ} {Done Nothing : Type 0} → m ≡ n → InRange t → First more n → n ≢ 0 → Nothing
-    → Answer (range-then t more) m Done Nothing
-refuse-in-range {t} {more} e r first ne nothing = refusing e (range-passes more r first) ne nothing
-
-pub answer-in-range : {t : Triple} {more : List Test} {Done Nothing : Type 0} → InRange t → First more 0 → Done → Answer (range-then t more) 0 Done Nothing
-answer-in-range {t} {more} r first done = answered (range-passes more r first) done
