@@ -3,11 +3,10 @@ use mathlib.Core.Path.{_≡_, refl, sym, ap, _∙_}
 use Prim.Native.Nat.{ℕ, _+_, _-_, _*_, _/_, _%_, _≤_, _<_}
 use native.Mathlib.Nat.{mod-lt, mod-add-div', div-add-mod', mul-le-mul, mul-le-mul-right, le-div-iff-mul-le, le-of-mul-le-mul-right, lt-of-mul-lt-mul-right, div-eq-of-lt-le}
 use native.Mathlib.Omega.{arith}
-use Rattle.numbers.proofs.Congruences.{cong-eq, cong-sym, cong-same, cong-add, cong-mul, cong-mod, _⨾_}
+use Rattle.numbers.proofs.Congruences.{cong-eq, cong-sym, cong-same, cong-mul, cong-mod, _⨾_}
 use Rattle.triples.specs.declared.Triple.{Triple}
 use Rattle.triples.specs.Shuffles.{InRange}
 use Rattle.triples.specs.Quick.{scale, Prepared}
-use Rattle.triples.proofs.Values.{line-small, square-small}
 
 -- v is q·k + r, and n is v·M/k or above it, by less than M/k: then n / M is q, and n % M gives r
 module _ (M k q r n w : ℕ) (pos : 0 < k) (less : r < k) (near : n * k ≡ (q * k + r) * M + w) (small : w < M) where
@@ -30,81 +29,78 @@ fraction M k v n w pos near small =
     let near′ : n * k ≡ (v / k * k + v % k) * M + w = near ∙ ap (λ (t : ℕ). t * M + w) (sym (div-add-mod' v k)) in
     over M k (v / k) (v % k) n w pos less near′ small (n / M) (n % M) (div-add-mod' n M) (turns M k (v / k) (v % k) n w pos less near′ small)
 
--- ---- the multiplier
-
--- the most that f1·x + f2·x² reaches
-abbrev top : ℕ
-top = 8191 * 8191 + 8191 * (8191 * 8191)
-
--- m is near enough to scale/k: v·m + c is v·scale/k or above it, by less than scale/k
-pub record Rounded (k m c : ℕ) : Type 0 where
-  pub near : (v : ℕ) → v ≤ top → (w : ℕ) × ((v * m + c) * k ≡ v * scale + w) × (w < scale)
-  pub product : k * m < scale + m
-  pub shift : c < scale
-
--- e is what the multiplier times k is off the scale: at most half of k
-module _ (k e : ℕ) (high : k ≤ 8192) (half : 2 * e ≤ k) where
-  error : (v : ℕ) → v ≤ top → e * v ≤ 4096 * top
-  error v h = mul-le-mul {n₁ = e} {m₁ = v} {n₂ = 4096} {m₂ = top} (omega arith) h
-
-  rounded-down : (c : ℕ) → 0 < k → (c + 1) * k + e ≡ scale → Rounded k (c + 1) c
-  rounded-down c pos split =
-      record {
-        near = λ v h.
-            let b : e * v ≤ 4096 * top = error v h in
-            (scale - (k + e + e * v), omega (arith, ap (λ (t : ℕ). v * t) split), omega arith);
-        product = omega arith;
-        shift = omega (arith, mul-le-mul {n₁ = c} {m₁ = 1} {n₂ = c} {m₂ = k} (omega arith) (omega arith));
-      }
-
-  rounded-up : (m : ℕ) → 4096 < m → m * k ≡ scale + e → Rounded k m 0
-  rounded-up m large split =
-      record {
-        near = λ v h. let b : e * v ≤ 4096 * top = error v h in (e * v, omega (arith, ap (λ (t : ℕ). v * t) split), omega arith);
-        product = omega arith;
-        shift = omega arith;
-      }
-
--- the scale over 8192
-pub large : (k : ℕ) → 0 < k → k ≤ 8192 → 274877906944 ≤ scale / k
-large k pos high = le-div-iff-mul-le {k = k} {x = 274877906944} {y = scale} pos .1 (omega arith)
-
-pub below-rounded : (k : ℕ) → 0 < k → k ≤ 8192 → 2 * (scale % k) ≤ k → Rounded k (scale / k) (scale / k - 1)
-below-rounded k pos high half = go (scale / k) (scale % k) (mod-add-div' scale k) half (large k pos high)
-  where
-    go : (m e : ℕ) → e + m * k ≡ scale → 2 * e ≤ k → 274877906944 ≤ m → Rounded k m (m - 1)
-    go m e split half l =
-        let z : m - 1 + 1 ≡ m = omega arith in
-        rw z at (rounded-down k e high half (m - 1) pos (omega (arith, ap (λ (t : ℕ). t * k) z)))
-
-pub above-rounded : (k : ℕ) → 0 < k → k ≤ 8192 → k < 2 * (scale % k) → Rounded k (scale / k + 1) 0
-above-rounded k pos high half = go (scale / k) (scale % k) (mod-add-div' scale k) half (mod-lt scale pos) (large k pos high)
-  where
-    go : (m e : ℕ) → e + m * k ≡ scale → k < 2 * e → e < k → 274877906944 ≤ m → Rounded k (m + 1) 0
-    go m e split half less l = rounded-up k (k - e) high (omega arith) (m + 1) (omega arith) (omega arith)
-
 -- ---- the scaled coefficients
 
-module _ (k m c : ℕ) (u : Rounded k m c) where
-  pub scaled-lt : (a : ℕ) → a < k → a * m < scale
-  scaled-lt a h = omega (arith, u .product, mul-le-mul-right {m = a + 1} {n = k} m (omega arith))
+-- the scale over 8192
+large : (k : ℕ) → 0 < k → k ≤ 8192 → 274877906944 ≤ scale / k
+large k pos high = le-div-iff-mul-le {k = k} {x = 274877906944} {y = scale} pos .1 (omega arith)
 
-  pub scaled-place : (a b x : ℕ) → k ≤ 8192 → a < k → b < k → x < k → ((a * m + b * m * x) % scale * x + c) % scale * k / scale ≡ (a * x + b * (x * x)) % k
-  scaled-place a b x high ha hb hx =
-      let (w, near, small) = u .near (a * x + b * (x * x)) (omega (arith, line-small a x (omega arith) (omega arith), square-small b x (omega arith) (omega arith))) in
-      ap (λ (n : ℕ). n * k / scale)
-      (cong-same (cong-add (cong-mul (cong-sym (cong-mod scale (a * m + b * m * x))) (cong-eq {x = x} refl)) (cong-eq {x = c} refl) ⨾ cong-eq (omega arith)))
-      ∙ fraction scale k (a * x + b * (x * x)) ((a * x + b * (x * x)) * m + c) w (omega arith) near small
+-- m is what scale/k is without its fraction, and r is left of the scale
+pub record Quotient (k m r : ℕ) : Type 0 where
+  pub split : r + m * k ≡ scale
+  pub less : r < k
+  pub high : k ≤ 8192
+  pub large : 274877906944 ≤ m
 
-pub prepared : (t : Triple) (m c : ℕ) → InRange t → Rounded (t .k) m c → Prepared t (record { f1 = t .f1 * m; f2 = t .f2 * m; shift = c })
-prepared t m c r u =
-    record {
-      range = r;
-      first = scaled-lt (t .k) m c u (t .f1) (r .first);
-      second = scaled-lt (t .k) m c u (t .f2) (r .second);
-      last = u .shift;
-      places = λ x h. scaled-place (t .k) m c u (t .f1) (t .f2) x (r .high) (r .first) (r .second) h;
-    }
+pub quotient : (k : ℕ) → 0 < k → k ≤ 8192 → Quotient k (scale / k) (scale % k)
+quotient k pos high = record { split = mod-add-div' scale k; less = mod-lt scale pos; high = high; large = large k pos high }
+
+-- the coefficients p and q serve for a and b at x: by w their line is too high
+scaled-place : (k a b p q x w : ℕ) → 0 < k → (p * x + q * (x * x)) * k ≡ (a * x + b * (x * x)) * scale + w → w < scale
+    → (p + q * x) % scale * x % scale * k / scale ≡ (a * x + b * (x * x)) % k
+scaled-place k a b p q x w pos near small =
+    ap (λ (n : ℕ). n * k / scale) (cong-same (cong-mul (cong-sym (cong-mod scale (p + q * x))) (cong-eq {x = x} refl) ⨾ cong-eq (omega arith)))
+    ∙ fraction scale k (a * x + b * (x * x)) (p * x + q * (x * x)) w pos near small
+
+-- by less than the scale, where the second coefficient is at most half of the greatest length
+off-small : (e c d x : ℕ) → e ≤ 8192 → c ≤ 8192 → d ≤ 4096 → x ≤ 8191 → e * (c * x + d * (x * x)) < scale
+off-small e c d x he hc hd hx =
+    let line : c * x ≤ 8192 * 8191 = mul-le-mul {n₁ = c} {m₁ = x} hc hx in
+    let square : d * (x * x) ≤ 4096 * (8191 * 8191) = mul-le-mul {n₁ = d} {m₁ = x * x} hd (mul-le-mul {n₁ = x} {m₁ = x} hx hx) in
+    omega (arith, mul-le-mul {n₁ = e} {m₁ = c * x + d * (x * x)} {n₂ = 8192} {m₂ = 8192 * 8191 + 4096 * (8191 * 8191)} he (omega arith))
+
+module _ (k m r : ℕ) (u : Quotient k m r) where
+  pub above-lt : (a : ℕ) → a < k → a * (m + 1) < scale
+  above-lt a h = omega (arith, u .split, u .less, u .high, u .large, mul-le-mul-right {m = a + 1} {n = k} m (omega arith))
+
+  pub below-lt : (a : ℕ) → a < k → a * m + r < scale
+  below-lt a h = omega (arith, u .split, u .large, mul-le-mul-right {m = a + 1} {n = k} m (omega arith))
+
+module _ (t : Triple) (range : InRange t) (m r : ℕ) (u : Quotient (t .k) m r) where
+  pub prepared-above : 2 * t .f2 ≤ t .k → Prepared t (record { f1 = t .f1 * (m + 1); f2 = t .f2 * (m + 1) })
+  prepared-above half =
+      record {
+        range = range;
+        first = above-lt (t .k) m r u (t .f1) (range .first);
+        second = above-lt (t .k) m r u (t .f2) (range .second);
+        places = λ x h.
+            scaled-place (t .k) (t .f1) (t .f2) (t .f1 * (m + 1)) (t .f2 * (m + 1)) x ((t .k - r) * (t .f1 * x + t .f2 * (x * x))) (omega arith) (near x)
+            (off-small (t .k - r) (t .f1) (t .f2) x (omega (arith, u .high)) (omega (arith, u .high, range .first)) (omega (arith, u .high)) (omega (arith, u .high)));
+      }
+    where
+      one : (m + 1) * t .k ≡ scale + (t .k - r)
+      one = omega (arith, u .split, u .less)
+
+      near : (x : ℕ) → (t .f1 * (m + 1) * x + t .f2 * (m + 1) * (x * x)) * t .k ≡ (t .f1 * x + t .f2 * (x * x)) * scale + (t .k - r) * (t .f1 * x + t .f2 * (x * x))
+      near x = omega (arith, ap (λ (n : ℕ). (t .f1 * x + t .f2 * (x * x)) * n) one)
+
+  pub prepared-below : t .k < 2 * t .f2 → Prepared t (record { f1 = t .f1 * m + r; f2 = t .f2 * m + r })
+  prepared-below half =
+      record {
+        range = range;
+        first = below-lt (t .k) m r u (t .f1) (range .first);
+        second = below-lt (t .k) m r u (t .f2) (range .second);
+        places = λ x h.
+            scaled-place (t .k) (t .f1) (t .f2) (t .f1 * m + r) (t .f2 * m + r) x (r * ((t .k - t .f1) * x + (t .k - t .f2) * (x * x))) (omega arith) (near x)
+            (off-small r (t .k - t .f1) (t .k - t .f2) x (omega (arith, u .high, u .less)) (omega (arith, u .high)) (omega (arith, u .high)) (omega (arith, u .high)));
+      }
+    where
+      near : (x : ℕ) → ((t .f1 * m + r) * x + (t .f2 * m + r) * (x * x)) * t .k ≡ (t .f1 * x + t .f2 * (x * x)) * scale + r * ((t .k - t .f1) * x + (t .k - t .f2) * (x * x))
+      near x = go (t .f1) (t .f2) (t .k - t .f1) (t .k - t .f2) (omega (arith, range .first)) (omega (arith, range .second))
+        where
+          go : (a b c d : ℕ) → a + c ≡ t .k → b + d ≡ t .k → ((a * m + r) * x + (b * m + r) * (x * x)) * t .k ≡ (a * x + b * (x * x)) * scale + r * (c * x + d * (x * x))
+          go a b c d ea eb =
+              omega (arith, ap (λ (n : ℕ). (a * x + b * (x * x)) * n) (u .split), ap (λ (n : ℕ). r * x * n) ea, ap (λ (n : ℕ). r * (x * x) * n) eb)
 
 -- ---- nothing leaves 64 bits
 

@@ -9,10 +9,9 @@ use Rattle.triples.specs.Shuffles.{f, InRange}
 abbrev pub scale : ℕ
 scale = 2251799813685248
 
--- the triple is in range, each number is below the scale, and by them a place is found
+-- the triple is in range, both numbers are below the scale, and by them a place is found
 pub record Prepared (t : Triple) (s : Scaled) : Type 0 where
   pub range : InRange t
   pub first : s .f1 < scale
   pub second : s .f2 < scale
-  pub last : s .shift < scale
-  pub places : (x : ℕ) → x < t .k → ((s .f1 + s .f2 * x) % scale * x + s .shift) % scale * t .k / scale ≡ f t x
+  pub places : (x : ℕ) → x < t .k → (s .f1 + s .f2 * x) % scale * x % scale * t .k / scale ≡ f t x

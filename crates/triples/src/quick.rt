@@ -8,14 +8,15 @@ ghost use Rattle.triples.specs.Quick.{Prepared};
 // 2 to the 51st: with it no product below leaves 64 bits, and a remainder or a quotient by it is a mask or a shift.
 const SCALE: u64 = 2251799813685248;
 
-// The coefficients times a whole number near SCALE/K, and what is added where that number is too small.
+// The coefficients in parts of which SCALE make K.
 pub struct Scaled {
     pub f1: u64,
     pub f2: u64,
-    pub shift: u64,
 }
 
-// To the nearest whole number: always down, the error would grow past what the shift makes good.
+// SCALE/K is no whole number, so that one of its two neighbours must do. What it is off, times f1·x + f2·x², must make the place
+// too high by less than one, and never too low. Above SCALE/K that holds for an f2 of at most half K. A larger f2 is counted down
+// from K, and f1 with it: SCALE - (K - f1)·below is f1·below + rest.
 pub fn prepare(t: Triple) -> Scaled
     requires { ⌜ InRange t ⌝ }
     ensures { λ r. ⌜ Prepared t r ⌝ }
@@ -24,19 +25,17 @@ pub fn prepare(t: Triple) -> Scaled
     let f1 = t.f1 as u64;
     let f2 = t.f2 as u64;
     let below = SCALE / k;
-    let rest = SCALE % k;
-    if 2 * rest <= k {
+    if 2 * f2 <= k {
+        let above = below + 1;
         return Scaled {
-            f1: f1 * below,
-            f2: f2 * below,
-            shift: below - 1,
+            f1: f1 * above,
+            f2: f2 * above,
         };
     }
-    let above = below + 1;
+    let rest = SCALE % k;
     Scaled {
-        f1: f1 * above,
-        f2: f2 * above,
-        shift: 0,
+        f1: f1 * below + rest,
+        f2: f2 * below + rest,
     }
 }
 
@@ -47,6 +46,6 @@ pub fn quick_place(t: Triple, scaled: Scaled, x: usize) -> usize
 {
     let at = x as u64;
     let slope = (scaled.f1 + scaled.f2 * at) % SCALE;
-    let part = (slope * at + scaled.shift) % SCALE;
+    let part = slope * at % SCALE;
     (part * t.k as u64 / SCALE) as usize
 }

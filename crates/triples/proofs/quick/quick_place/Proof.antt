@@ -17,24 +17,21 @@ add-slope c = let a = c .before .before .args in omega (arith, times-small (a .s
 mul-part : tie.Need-mul-part
 mul-part c = let a = c .before .before .args in omega (arith, rest-small (a .scaled .f1 + a .scaled .f2 * a .x) (a .x))
 
-add-part : tie.Need-add-part
-add-part c = let a = c .before .before .before .args in omega (arith, rest-small (a .scaled .f1 + a .scaled .f2 * a .x) (a .x))
-
 cast-result : tie.Need-cast-result
 cast-result c = search needs
 
 mul-result : tie.Need-mul-result
 mul-result c =
-    let a = c .before .before .before .before .args in
-    omega (arith, rest-small ((a .scaled .f1 + a .scaled .f2 * a .x) % scale * a .x + a .scaled .shift) (a .t .k))
+    let a = c .before .before .before .args in
+    omega (arith, rest-small ((a .scaled .f1 + a .scaled .f2 * a .x) % scale * a .x) (a .t .k))
 
 returns : tie.Need-returns
 returns c =
-    let s = c .before .before .before .before in
+    let s = c .before .before .before in
     let a = s .args in
     let e = s .pre .0 .places (a .x) (omega arith) in
     (e, omega (arith, e, mod-lt (a .t .f1 * a .x + a .t .f2 * (a .x * a .x)) {m = a .t .k} (omega arith)))
 
 pub quick-place-spec : {M : Type 1} → statement M
 quick-place-spec =
-    tie.close (tie.spec mul-slope add-slope mul-part add-part cast-result mul-result returns)
+    tie.close (tie.spec mul-slope add-slope mul-part cast-result mul-result returns)
