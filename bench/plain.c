@@ -165,29 +165,30 @@ static const uint32_t rising[91] = {
     44990231, 6926634, 749463, 55770, 2717,  78,    1,
 };
 
-/* The series, then from the top place down what is above the limit taken away. */
+/* The series, as far as its powers are not 0; then from its top place down what is above the limit taken away. */
 struct qpp_inverse plain_inverse(uint32_t k, uint32_t f1, uint32_t f2) {
     struct qpp_inverse r = {judge(k, f1, f2), 0, {0}};
     if (r.number != QPP_DONE)
         return r;
     struct pair odd = odd_form(k, f1, f2);
-    uint32_t power = unit(k, odd.f1), limit[14] = {k};
-    uint32_t step = (uint32_t)((uint64_t)(k - 1) * (odd.f2 * (power * power % k) % k) % k);
-    for (int j = 0; j < 13; j++) {
-        r.a[j] = (uint32_t)((uint64_t)power * catalan[j] % k);
+    uint32_t power = unit(k, odd.f1), limit[14] = {k}, top = 0;
+    uint32_t step = (k - 1) * (odd.f2 * (power * power % k) % k) % k;
+    for (; top < 13 && power != 0; top++) {
+        r.a[top] = power * catalan[top];
         power = power * step % k;
     }
-    for (uint32_t j = 1; j < 14; j++)
+    for (uint32_t j = 1; j <= top; j++)
         limit[j] = limit[j - 1] / gcd(limit[j - 1], j);
-    for (int n = 13; n > 0; n--) {
-        uint32_t a = r.a[n - 1];
+    for (uint32_t n = top; n > 0; n--) {
+        uint32_t a = r.a[n - 1] %= k;
         if (a >= limit[n]) {
-            uint32_t times = k - (a - a % limit[n]);
-            for (int j = 0; j < n; j++)
-                r.a[j] = (uint32_t)((r.a[j] + (uint64_t)times * rising[n * (n - 1) / 2 + j]) % k);
+            uint32_t rest = r.a[n - 1] = a % limit[n], times = k - (a - rest);
+            const uint32_t *row = rising + n * (n - 1) / 2;
+            for (uint32_t j = 0; j < n - 1; j++)
+                r.a[j] += times * (row[j] % k);
         }
     }
-    for (r.degree = 13; r.degree > 0 && r.a[r.degree - 1] == 0;)
+    for (r.degree = top; r.degree > 0 && r.a[r.degree - 1] == 0;)
         r.degree--;
     return r;
 }

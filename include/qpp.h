@@ -70,10 +70,10 @@ struct qpp_value qpp_address(uint32_t k, uint32_t f1, uint32_t f2, uint32_t x);
 /* The r below K with r*f1 mod K = 1, f1 of the odd form. Refusals 1, 2, 3. */
 struct qpp_value qpp_reciprocal(uint32_t k, uint32_t f1, uint32_t f2);
 
-/* The largest s such that different positions less than s apart have addresses at least s apart. Refusals 1, 2, 3. */
+/* The largest s from 1 to K such that positions less than s apart have addresses at least s apart. Refusals 1, 2, 3. */
 struct qpp_value qpp_spread(uint32_t k, uint32_t f1, uint32_t f2);
 
-/* The polynomial of least degree that sends every address back, inside the coefficient limits. Refusals 1, 2, 3. */
+/* The polynomial of least degree that sends every address back, each ak below K/gcd(K, k!). Refusals 1, 2, 3. */
 struct qpp_inverse qpp_inverse(uint32_t k, uint32_t f1, uint32_t f2);
 
 /* The ARP form: P, Q, and S[0] to S[Q-1] into the list; later entries stay. Refusals 1, 2, 3, 7. */
@@ -89,13 +89,20 @@ struct qpp_step qpp_walker_step(struct qpp_walker w);
 uint32_t qpp_addresses(uint32_t k, uint32_t f1, uint32_t f2, uint16_t *list, size_t n);
 
 /*
- * Moving a block in place. After interleaving, place i holds what stood at f(i); after deinterleaving, place f(i)
- * holds what stood at i. The scratch may hold anything; its first K/8 bytes, rounded up, are zero afterwards.
- * Refusals 1, 2, 3, 4, 5.
+ * Moving a block of n symbols in place. The scratch has m bytes and may hold anything; afterwards its first K/8 bytes, rounded up,
+ * are zero and the rest stays. Refusals 1, 2, 3, 4, 5.
  */
+
+/* Place i comes to hold the byte that stood at f(i). */
 uint32_t qpp_interleave_u8(uint32_t k, uint32_t f1, uint32_t f2, uint8_t *block, size_t n, uint8_t *scratch, size_t m);
+
+/* Place f(i) comes to hold the byte that stood at i. */
 uint32_t qpp_deinterleave_u8(uint32_t k, uint32_t f1, uint32_t f2, uint8_t *block, size_t n, uint8_t *scratch, size_t m);
+
+/* Place i comes to hold the signed 16-bit value that stood at f(i). */
 uint32_t qpp_interleave_i16(uint32_t k, uint32_t f1, uint32_t f2, int16_t *block, size_t n, uint8_t *scratch, size_t m);
+
+/* Place f(i) comes to hold the signed 16-bit value that stood at i. */
 uint32_t qpp_deinterleave_i16(uint32_t k, uint32_t f1, uint32_t f2, int16_t *block, size_t n, uint8_t *scratch, size_t m);
 
 #ifdef __cplusplus

@@ -1,6 +1,6 @@
 //! The definitions, by brute force.
 
-/// Document 01's numbers of refusal.
+/// The scope's numbers of refusal.
 pub const DONE: u32 = 0;
 pub const BAD_K: u32 = 1;
 pub const BAD_COEFFICIENT: u32 = 2;

@@ -1,4 +1,4 @@
-//! Document 01's own cases, and the inverse against all polynomials where they can be listed.
+//! The scope's own cases, and the inverse against all polynomials where they can be listed.
 
 use crate::shuffle::*;
 use crate::{card_input, cards, inverses};

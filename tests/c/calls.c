@@ -121,12 +121,15 @@ static void values(void) {
     struct triple t = {40, 3, 10};
     CHECK(qpp_reciprocal(40, 3, 10).value == 27);
     CHECK(qpp_spread(40, 3, 10).value == 3);
+    t = (struct triple){8, 1, 4};
     CHECK(qpp_spread(8, 1, 4).value == 2);
     /* 6: the position, after the triple */
+    t = (struct triple){9, 1, 3};
     CHECK(qpp_address(9, 1, 3, 8).number == 0 && qpp_address(9, 1, 3, 8).value == 2);
     CHECK(qpp_address(9, 1, 3, 9).number == 6 && qpp_address(9, 1, 3, 9).value == 0);
     CHECK(qpp_address(9, 1, 3, 0xffffffff).number == 6);
     CHECK(qpp_address(9, 1, 1, 9).number == 3 && qpp_address(9, 9, 1, 9).number == 2);
+    t = (struct triple){8192, 8191, 8190};
     CHECK(qpp_address(8192, 8191, 8190, 8191).value == model_f((struct triple){8192, 8191, 8190}, 8191));
     CHECK(qpp_address(8192, 1, 2, 8192).number == 6);
 }

@@ -1,6 +1,6 @@
 /*
- * A plain model of every call, from the definitions and by brute force. It has no method in common with the library:
- * acceptance marks every position, the reciprocal is searched for, blocks are moved out of place.
+ * A plain model of every call, from the definitions: acceptance marks every position, the reciprocal is searched for, the
+ * inverse is tried at every address, blocks are moved out of place. It shares no code with the library.
  */
 #ifndef MODEL_H
 #define MODEL_H

@@ -38,23 +38,12 @@ reads-front seen {k} {f1} {f2} = front-whole (λ l. Reads l k f1 f2) seen (λ l 
 pub reads-whole : (seen : List ℕ) {k f1 f2 : ℕ} → Reads seen k f1 f2 → Reads (take 18 seen) k f1 f2
 reads-whole seen {k} {f1} {f2} = whole-front (λ l. Reads l k f1 f2) seen (λ l r. reads-short r)
 
--- reading the bytes that are held answers as reading all of them
-pub read-front : (seen : List ℕ) {r : Reading} → ReadAs (take 18 seen) r → ReadAs seen r
-read-front seen a =
-    record {
-      readable = λ e. reads-front seen (a .readable e);
-      unreadable = λ e. ((λ k f1 f2 r. a .unreadable e .0 k f1 f2 (reads-whole seen r)), a .unreadable e .1);
-    }
-
 card-front : (seen : List ℕ) {text : List ℕ} → CardOf (take 18 seen) text → CardOf seen text
 card-front seen (unreadable none e) = unreadable (λ k f1 f2 r. none k f1 f2 (reads-whole seen r)) e
 card-front seen (refused k f1 f2 n r a ne e) = refused k f1 f2 n (reads-front seen r) a ne e
 card-front seen (accepted k f1 f2 x r a w e) = accepted k f1 f2 x (reads-front seen r) a w e
 
 -- ---- as the code holds it
-
-pub holding-none : (line : Line) → line .size ≡ 0 → Holding [] line
-holding-none line e = record { size = e; held = ap (λ (n : ℕ). take n (line .bytes)) e }
 
 pub holding-full : {seen : List ℕ} {line : Line} (byte : ℕ) → Holding seen line → 18 ≤ line .size → Holding (seen ++ (byte ∷ [])) line
 holding-full {seen} {line} byte h full = record { size = h .size ∙ ap length same; held = h .held ∙ same }

@@ -23,9 +23,6 @@ digits-one (c ∷ a) (d ∷ b) {x} {y} (_, da) (_, db) sx sy e =
     let r : (a ≡ b) × (x ≡ y) = digits-one a b da db sx sy t in
     ((cc), r .1)
 
-pub number-one : {text : List ℕ} {n m : ℕ} → Number text n → Number text m → n ≡ m
-number-one p q = p .stands-for ∙ sym (q .stands-for)
-
 pub front-one : {text : List ℕ} {n m : ℕ} {rest other : List ℕ} → Front text n rest → Front text m other → (n ≡ m) × (rest ≡ other)
 front-one p q =
     let e = digits-one (p .front) (q .front) (p .number .digits) (q .number .digits) (p .stops) (q .stops) (sym (p .split) ∙ q .split) in

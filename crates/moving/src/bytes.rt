@@ -42,7 +42,7 @@ pub fn deinterleave_u8(t: Triple, block: &mut [u8], scratch: &mut [u8])
     let scaled = triples::prepare(t);
     wipe(t, scratch);
     let mut start = marks::first_free(scratch, 0, k);
-    while start < k {
+    while start < k { // each turn walks a cycle
         let mut carried = block[start];
         let mut i = start;
         'cycle: loop {

@@ -4,7 +4,7 @@ pub mod words; // blocks of signed 16-bit values
 
 ghost use Prim.Native.Nat.{_+_, _/_, _≤_, _<_};
 ghost use lib.ListN.{length};
-ghost use Rattle.permuting.specs.Marks.{Cleared, Stepped};
+ghost use Rattle.permuting.specs.Marks.{Cleared, Followed};
 ghost use Rattle.triples.specs.Shuffles.{f, InRange};
 ghost use Rattle.triples.specs.Quick.{Prepared};
 use permuting::marks;
@@ -26,7 +26,7 @@ pub fn step(t: Triple, scaled: Scaled, i: usize, scratch: &mut [u8]) -> usize
     requires { ⌜ Prepared t scaled ⌝ }
     requires { ⌜ i < t .k ⌝ }
     requires { ⌜ i / 8 < length (now scratch) ⌝ }
-    ensures { λ r. ⌜ Stepped (f t) i r (now (scratch .entry)) (now (scratch .exit)) ⌝ }
+    ensures { λ r. ⌜ Followed (f t) i r (now (scratch .entry)) (now (scratch .exit)) ⌝ }
 {
     marks::mark(scratch, i);
     triples::quick_place(t, scaled, i)

@@ -8,7 +8,7 @@ use Prim.Native.Nat.{ℕ, _+_, _*_, _/_, _≤_, _<_}
 use native.Mathlib.Omega.{arith}
 use lib.ListN.{length, getD, set}
 use Rattle.permuting.specs.Permutations.{Permutation, count}
-use Rattle.permuting.specs.Marks.{marks, Kept, Cleared, Marked, Stepped, FirstFree}
+use Rattle.permuting.specs.Marks.{marks, Kept, Cleared, Marked, Followed, FirstFree}
 use Rattle.permuting.proofs.Marking.{length-marks, getD-marks}
 use Rattle.permuting.proofs.Keeping.{kept-none, kept-then, cleared-none-marked}
 use Rattle.permuting.proofs.Seen.{Seen, Unseen, fewer-unseen}
@@ -125,7 +125,7 @@ module _ {w : Direction} {A : Type 0} {d : A} {k : ℕ} {π : ℕ → ℕ} {old 
 
   -- the symbol at the next place is still the old one
   next-old : {clean s s′ : List ℕ} {xs : List A} {start i next : ℕ} {held v : A} → Along w d k π old clean xs s start i held
-      → Stepped π i next s s′ → v ≡ getD xs next d → next ≢ start → v ≡ getD old (π i) d
+      → Followed π i next s s′ → v ≡ getD xs next d → next ≢ start → v ≡ getD old (π i) d
   next-old {xs = xs} a t e ne =
       e ∙ ap (λ (j : ℕ). getD xs j d) (t .goes) ∙ next-unmoved (a .perm) (a .cycles) (a .block) (λ q. ne (t .goes ∙ q))
 
@@ -158,7 +158,7 @@ module _ {w : Direction} {A : Type 0} {d : A} {k : ℕ} {π : ℕ → ℕ} {old 
 
 -- the turns of an interleaving walk: place i takes the symbol of the next place, and the last place the first symbol
 module _ {A : Type 0} {d : A} {k : ℕ} {π : ℕ → ℕ} {old : List A} {clean s₀ s s′ : List ℕ} {xs₀ xs : List A} {start i next : ℕ} {first : A}
-    (b : Between interleave d k π old clean xs₀ s₀ start) (c : Cycle interleave d k π xs₀ s₀ start xs s i first) (t : Stepped π i next s s′) where
+    (b : Between interleave d k π old clean xs₀ s₀ start) (c : Cycle interleave d k π xs₀ s₀ start xs s i first) (t : Followed π i next s s′) where
   pub interleave-on : {v : A} → v ≡ getD xs next d → next ≢ start → Cycle interleave d k π xs₀ s₀ start (set xs i v) s′ next first
   interleave-on {v} e ne =
       rw (t .goes) (cycle b (λ old clean b′.
@@ -172,7 +172,7 @@ module _ {A : Type 0} {d : A} {k : ℕ} {π : ℕ → ℕ} {old : List A} {clean
 
 -- the turns of a deinterleaving walk: the next place takes the symbol in hand, and gives its own into the hand
 module _ {A : Type 0} {d : A} {k : ℕ} {π : ℕ → ℕ} {old : List A} {clean s₀ s s′ : List ℕ} {xs₀ xs : List A} {start i next : ℕ} {carried : A}
-    (b : Between deinterleave d k π old clean xs₀ s₀ start) (c : Cycle deinterleave d k π xs₀ s₀ start xs s i carried) (t : Stepped π i next s s′) where
+    (b : Between deinterleave d k π old clean xs₀ s₀ start) (c : Cycle deinterleave d k π xs₀ s₀ start xs s i carried) (t : Followed π i next s s′) where
   pub deinterleave-on : {v : A} → v ≡ getD xs next d → next ≢ start → Cycle deinterleave d k π xs₀ s₀ start (set xs next carried) s′ next v
   deinterleave-on e ne =
       rw (t .goes) (cycle b (λ old clean b′.

@@ -34,7 +34,7 @@ pub record Marked (i : ℕ) (before after : List ℕ) : Type 0 where
   pub kept : (n : ℕ) → i / 8 < n → Kept n before after
 
 -- one step along a map π: place i came to be marked, and next is where π takes it
-pub record Stepped (π : ℕ → ℕ) (i next : ℕ) (before after : List ℕ) : Type 0 where
+pub record Followed (π : ℕ → ℕ) (i next : ℕ) (before after : List ℕ) : Type 0 where
   pub goes : next ≡ π i
   pub marked : Marked i before after
 

@@ -107,10 +107,6 @@ stays-refused more (inr (p, inr (q, inr (r, e)))) ne = absurd (ne e)
 
 -- ---- the answers of a call that begins with the range
 
-pub refuse-range : {t : Triple} {more : List Test} {n m : ℕ} {Done Nothing : Type 0} → m ≡ n → First (range-then t []) n → n ≢ 0 → Nothing
-    → Answer (range-then t more) m Done Nothing
-refuse-range {t} {more} e first ne nothing = refusing e (range-stays more first ne) ne nothing
-
 pub refuse-in-range : {t : Triple} {more : List Test} {n m : ℕ} {Done Nothing : Type 0} → m ≡ n → InRange t → First more n → n ≢ 0 → Nothing
     → Answer (range-then t more) m Done Nothing
 refuse-in-range {t} {more} e r first ne nothing = refusing e (range-passes more r first) ne nothing
