@@ -74,6 +74,10 @@ zero-cong {K} x h = let (q, e) = quotient K h in record { l = 0; r = q; eq = ome
 pub cong-dvd : {K : ℕ} (x y : ℕ) → x ≤ y → Cong K x y → K ∣ y - x
 cong-dvd {K} x y le c = cong-zero (cong-cancel x (cong-eq (omega arith) ⨾ cong-sym c ⨾ cong-eq (omega arith)))
 
+-- a divisor of K divides both of two congruent numbers, or neither
+pub cong-divisor : {K x y : ℕ} (d : ℕ) → d ∣ K → Cong K x y → d ∣ x → d ∣ y
+cong-divisor d h c p = dvd-mod-iff d h .0 (subst (λ (n : ℕ). d ∣ n) (cong-same c) (dvd-mod-iff d h .1 p))
+
 -- ---- the reciprocal is one number
 
 pub reciprocal-one : (k a r s : ℕ) → Reciprocal k a r → Reciprocal k a s → r ≡ s

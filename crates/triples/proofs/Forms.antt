@@ -3,7 +3,7 @@ use mathlib.Core.Path.{_≡_, refl, sym, ap, subst, _∙_}
 use mathlib.Core.Logic.{_≢_}
 use mathlib.Core.Bool.{Bool, true, false, cond}
 use Prim.Native.Nat.{ℕ, _+_, _*_, _/_, _%_, _≤_, _<_}
-use native.Mathlib.Nat.{mod-lt, mod-add-div}
+use native.Mathlib.Nat.{mod-lt, mod-mod-of-dvd, dvd-of-mod-eq-zero}
 use native.Mathlib.Decide.{ℕ-discrete}
 use native.Mathlib.Omega.{arith}
 use lib.Dec.{eqb}
@@ -46,6 +46,10 @@ shifted-same t even x =
     (cong-add (cong-mul (cong-sym (cong-mod (t .k) (t .f1 + t .k / 2))) (cong-eq {x = x} refl)) (cong-mul (cong-sym (cong-mod (t .k) (t .f2 + t .k / 2))) (cong-eq {x = x * x} refl))
     ⨾ record { l = 0; r = q; eq = omega (arith, ap (λ (n : ℕ). t .k / 2 * n) e, ap (λ (n : ℕ). q * n) w) })
 
+-- the remainder by an even K has the parity of what was divided
+pub mod-parity : (k n : ℕ) → k % 2 ≡ 0 → n % k % 2 ≡ n % 2
+mod-parity k n even = mod-mod-of-dvd 2 n (dvd-of-mod-eq-zero 2 even)
+
 -- what the odd form o of t is good for
 pub record Form (t o : Triple) : Type 0 where
   pub length : o .k ≡ t .k
@@ -74,20 +78,7 @@ odd-form t r =
   where
     -- half of K is odd unless 4 divides K, and then so is the shifted f1
     four : t .k % 2 ≡ 0 → t .f1 % 2 ≡ 0 → (t .f1 + t .k / 2) % t .k % 2 ≡ 0 → t .k % 4 ≡ 0
-    four even e e′ =
-        let h : ℕ = t .k / 2 in
-        let n : ℕ = (t .f1 + t .k / 2) / t .k in
-        let z : t .k * n ≡ 2 * (h * n) = ap (λ (m : ℕ). m * n) (even-half (t .k) even) ∙ omega arith in
-        quarter (t .k) even (even-rest ((t .f1 + t .k / 2) % t .k) (t .f1) h (h * n) e′ e (omega (arith, mod-add-div (t .f1 + t .k / 2) (t .k))))
-      where
-        even-half : (m : ℕ) → m % 2 ≡ 0 → m ≡ 2 * (m / 2)
-        even-half m z = omega arith
-
-        even-rest : (v a h m : ℕ) → v % 2 ≡ 0 → a % 2 ≡ 0 → v + 2 * m ≡ a + h → h % 2 ≡ 0
-        even-rest v a h m p q w = omega arith
-
-        quarter : (m : ℕ) → m % 2 ≡ 0 → m / 2 % 2 ≡ 0 → m % 4 ≡ 0
-        quarter m p q = omega arith
+    four even e e′ = omega (arith, mod-parity (t .k) (t .f1 + t .k / 2) even)
 
 -- the same f permutes as well
 pub form-permutes : {t o : Triple} → Form t o → Permutes o → Permutes t

@@ -102,17 +102,17 @@ clash-part t m s w e ek big pos co ew = go (eq-zero-or-pos (t .f2))
 
 -- ---- parity
 
-even : (n : ℕ) → n % 2 ≡ 0 → 2 ∣ n
+pub even : (n : ℕ) → n % 2 ≡ 0 → 2 ∣ n
 even n e = dvd-make 2 (n / 2) (omega arith)
 
-odd-if-not : (n : ℕ) → ¬ (2 ∣ n) → n % 2 ≡ 1
+pub odd-if-not : (n : ℕ) → ¬ (2 ∣ n) → n % 2 ≡ 1
 odd-if-not n h = pick (ℕ-discrete (n % 2) 0)
   where
     pick : Dec (n % 2 ≡ 0) → n % 2 ≡ 1
     pick (yes z) = absurd (h (even n z))
     pick (no z) = omega arith
 
-odd-coprime : (n : ℕ) → n % 2 ≡ 1 → Coprime 2 n
+pub odd-coprime : (n : ℕ) → n % 2 ≡ 1 → Coprime 2 n
 odd-coprime n e d p q = go (ℕ-discrete d 2) (ℕ-discrete d 0)
   where
     go : Dec (d ≡ 2) → Dec (d ≡ 0) → d ≡ 1

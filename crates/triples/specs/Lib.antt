@@ -1,2 +1,3 @@
 pub mod Shuffles
 pub mod Quick
+pub mod Rules
