@@ -2,15 +2,14 @@
 use mathlib.Core.Path.{_≡_, refl, sym, ap, subst, _∙_}
 use mathlib.Core.Logic.{_≢_}
 use Prim.Native.Nat.{ℕ, zero, suc, _+_, _*_, _/_, _%_, _≤_, _<_, _∣_}
-use native.Mathlib.Nat.{dvd-refl, dvd-trans, dvd-mul-right, dvd-mul-left-of-dvd, dvd-mul-right-of-dvd, dvd-add, dvd-add-iff-left, dvd-of-mod-eq-zero, mod-eq-zero-of-dvd, div-mul-cancel, le-of-dvd, pos-of-dvd-of-pos, mod-lt}
+use native.Mathlib.Nat.{dvd-refl, dvd-mul-right-of-dvd, dvd-add, dvd-add-iff-left, dvd-of-mod-eq-zero, mod-eq-zero-of-dvd, div-mul-cancel, le-of-dvd, pos-of-dvd-of-pos}
 use native.Mathlib.Decide.{ℕ-discrete}
 use native.Mathlib.Omega.{arith}
 use Rattle.numbers.specs.Divisors.{IsGcd}
-use Rattle.numbers.proofs.Dividing.{dvd-make, quotient, gcd-exact, factors-pos}
-use Rattle.numbers.specs.Congruence.{Cong}
-use Rattle.numbers.proofs.Congruences.{cong-eq, cong-sym, cong-same, same-cong, cong-zero, zero-cong, cong-add, cong-cancel, _⨾_}
+use Rattle.numbers.proofs.Dividing.{dvd-make, quotient, gcd-exact}
+use Rattle.numbers.proofs.Congruences.{cong-eq, cong-same, same-cong, cong-zero, zero-cong, cong-add, cong-cancel, _⨾_}
 use Rattle.triples.specs.declared.Triple.{Triple}
-use Rattle.arp.specs.Arp.{shift, Repeats, Period}
+use Rattle.arp.specs.Arp.{Repeats, Period}
 
 -- q repeats exactly where K divides f2·q² and 2·f2·q
 pub record Divided (t : Triple) (q : ℕ) : Type 0 where
@@ -40,9 +39,6 @@ module _ (t : Triple) (g q : ℕ) (pos : 0 < t .k) (is : IsGcd (t .k) (2 * t .f2
   whole : q * g ≡ t .k
   whole = ap (λ (n : ℕ). n * g) e ∙ div-mul-cancel g (is .left)
 
-  parts : (0 < q) × (0 < g)
-  parts = factors-pos (t .k) q g pos (sym whole)
-
   q-divides : q ∣ t .k
   q-divides = dvd-make q g (sym whole)
 
@@ -53,23 +49,41 @@ module _ (t : Triple) (g q : ℕ) (pos : 0 < t .k) (is : IsGcd (t .k) (2 * t .f2
   multiple : (p : ℕ) → Repeats t p → q ∣ p
   multiple p r = gcd-exact (t .k) (2 * t .f2) g q p pos is whole .0 (repeats-divided t p r .double)
 
-  pub period-least : t .f2 * (q * q) % t .k ≡ 0 → Period t q
-  period-least z =
+  serves : t .k ∣ t .f2 * (q * q) → Period t q
+  serves square =
       record {
         divides = q-divides;
-        repeats = divided-repeats t q (record { square = dvd-of-mod-eq-zero (t .k) z; double = double });
+        repeats = divided-repeats t q (record { square = square; double = double });
         least = λ p d r. le-of-dvd (pos-of-dvd-of-pos d pos) (multiple p r);
       }
 
-  -- where q fails, the common divisor is even: were it odd, K would divide f2·q and so f2·q²
-  even : t .f2 * (q * q) % t .k ≢ 0 → g % 2 ≡ 0
+  pub period-even : q % 2 ≡ 0 → Period t q
+  period-even z = serves (subst (λ (n : ℕ). t .k ∣ n) (paired (t .f2) q z) (dvd-mul-right-of-dvd (t .k) double (q / 2)))
+    where
+      paired : (f q : ℕ) → q % 2 ≡ 0 → 2 * f * q * (q / 2) ≡ f * (q * q)
+      paired f q z = let w : q ≡ 2 * (q / 2) = omega arith in omega (arith, ap (λ (n : ℕ). f * (q * n)) w)
+
+  pub period-least : t .f2 * q % t .k ≡ 0 → Period t q
+  period-least z = serves (subst (λ (n : ℕ). t .k ∣ n) (omega arith) (dvd-mul-right-of-dvd (t .k) (dvd-of-mod-eq-zero (t .k) z) q))
+
+  -- where q is odd, K divides f2·q² only with f2·q
+  odd-square : q % 2 ≢ 0 → t .k ∣ t .f2 * (q * q) → t .k ∣ t .f2 * q
+  odd-square odd square =
+      dvd-add-iff-left (t .k) {m = t .f2 * q} (dvd-mul-right-of-dvd (t .k) double (q / 2)) .1
+      (subst (λ (n : ℕ). t .k ∣ n) (parted (t .f2) q odd) square)
+    where
+      parted : (f q : ℕ) → q % 2 ≢ 0 → f * (q * q) ≡ f * q + 2 * f * q * (q / 2)
+      parted f q odd = let w : q ≡ 2 * (q / 2) + 1 = omega arith in omega (arith, ap (λ (n : ℕ). f * (q * n)) w)
+
+  -- where f2·q fails, the common divisor is even: were it odd, K would divide f2·q
+  even : t .f2 * q % t .k ≢ 0 → g % 2 ≡ 0
   even ne = pick (ℕ-discrete (g % 2) 0)
     where
-      square : g % 2 ≢ 0 → t .k ∣ t .f2 * (q * q)
-      square odd =
+      single : g % 2 ≢ 0 → t .k ∣ t .f2 * q
+      single odd =
           let (n, en) = quotient g (is .right) in
           let half : t .f2 ≡ g * (n / 2) = halved g n (t .f2) odd en in
-          dvd-make (t .k) (n / 2 * q) (ap (λ (m : ℕ). m * (q * q)) half ∙ omega arith ∙ ap (λ (m : ℕ). m * (n / 2 * q)) whole)
+          dvd-make (t .k) (n / 2) (ap (λ (m : ℕ). m * q) half ∙ omega arith ∙ ap (λ (m : ℕ). m * (n / 2)) whole)
         where
           halved : (g n f : ℕ) → g % 2 ≢ 0 → 2 * f ≡ g * n → f ≡ g * (n / 2)
           halved g n f odd en = split (ℕ-discrete (n % 2) 0)
@@ -88,10 +102,10 @@ module _ (t : Triple) (g q : ℕ) (pos : 0 < t .k) (is : IsGcd (t .k) (2 * t .f2
 
       pick : Dec (g % 2 ≡ 0) → g % 2 ≡ 0
       pick (yes z) = z
-      pick (no odd) = absurd (ne (mod-eq-zero-of-dvd (t .k) (square odd)))
+      pick (no odd) = absurd (ne (mod-eq-zero-of-dvd (t .k) (single odd)))
 
-  pub period-double : t .f2 * (q * q) % t .k ≢ 0 → Period t (2 * q)
-  period-double ne =
+  pub period-double : q % 2 ≢ 0 → t .f2 * q % t .k ≢ 0 → Period t (2 * q)
+  period-double odd ne =
       record {
         divides = dvd-make (2 * q) (g / 2) (sym whole ∙ ap (λ (n : ℕ). q * n) (twice g (even ne)) ∙ omega arith);
         repeats =
@@ -110,5 +124,5 @@ module _ (t : Triple) (g q : ℕ) (pos : 0 < t .k) (is : IsGcd (t .k) (2 * t .f2
       least p pos r (zero, w) = absurd (omega arith)
       least p pos r (suc zero, w) =
           let same : p ≡ q = omega arith in
-          absurd (ne (mod-eq-zero-of-dvd (t .k) (subst (λ (n : ℕ). t .k ∣ t .f2 * (n * n)) same (repeats-divided t p r .square))))
+          absurd (ne (mod-eq-zero-of-dvd (t .k) (odd-square odd (subst (λ (n : ℕ). t .k ∣ t .f2 * (n * n)) same (repeats-divided t p r .square)))))
       least p pos r (suc (suc c), w) = omega arith

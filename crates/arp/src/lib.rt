@@ -6,14 +6,17 @@ ghost use Rattle.triples.specs.Shuffles.{InRange, Written};
 ghost use Rattle.arp.specs.Arp.{shift, Period};
 
 // The period Q. The numbers q with K dividing 2·f2·q are the multiples of K/gcd(K, 2·f2); the least of them
-// serves unless K fails to divide f2·q², and then its double does.
+// serves unless K fails to divide f2·q², and then its double does. f2·q² is (2·f2·q)·(q/2) where q is even, which K divides,
+// and f2·q + (2·f2·q)·((q-1)/2) where q is odd: then f2·q decides, and 32 bits hold it.
 pub fn period(t: Triple) -> u32
     requires { ⌜ InRange t ⌝ }
     ensures { λ q. ⌜ Period t q × (q ≤ t .k) ⌝ }
 {
     let q = t.k / numbers::gcd(t.k, 2 * t.f2);
-    let wide = q as u64;
-    if t.f2 as u64 * (wide * wide) % t.k as u64 == 0 {
+    if q % 2 == 0 {
+        return q;
+    }
+    if t.f2 * q % t.k == 0 {
         return q;
     }
     2 * q

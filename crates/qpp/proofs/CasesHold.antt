@@ -31,7 +31,7 @@ deinterleaved π a b size e = record { size = size; holds = same-below (length a
 arp-8 : Arp (triple 8 1 4) 1 2 (0 ∷ 4 ∷ []) (0 ∷ 4 ∷ [])
 arp-8 =
     arp-form (accepted (judged-as (triple 8 1 4) 0 tt) refl) refl
-    (period-double (triple 8 1 4) 8 1 (omega arith) (record { left = dvd-refl 8; right = dvd-refl 8; greatest = λ d p q. p }) refl (λ e. omega arith))
+    (period-double (triple 8 1 4) 8 1 (omega arith) (record { left = dvd-refl 8; right = dvd-refl 8; greatest = λ d p q. p }) refl (λ e. omega arith) (λ e. omega arith))
     (record { size = refl; entries = same-below 2 (λ j. getD (0 ∷ 4 ∷ []) j 0) (shift (triple 8 1 4)) tt; rest = λ j l. refl })
 
 infixr 4 _&_
