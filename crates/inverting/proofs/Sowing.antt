@@ -2,33 +2,46 @@
 use mathlib.Core.Path.{_≡_, refl, sym, ap, subst, _∙_}
 use mathlib.Core.List.{List}
 use Prim.Native.Nat.{ℕ, zero, suc, _+_, _*_, _-_, _%_, _^_, _≤_, _<_}
-use native.Mathlib.Nat.{pow-zero, pow-suc}
+use native.Mathlib.Nat.{pow-zero, pow-suc, mul-le-mul}
 use native.Mathlib.Omega.{arith}
 use native.Mathlib.Numerals.{add-one}
 use native.Mathlib.Decide.{decLt}
-use lib.ListN.{length, getD, set, length-set, List·getD-eq-default}
+use lib.ListN.{length, getD, set, replicate, length-set, List·getD-eq-default}
+use lib.Pow.{pow-add}
+use lib.Seq.{getD-set-other}
 use Rattle.numbers.specs.Congruence.{Cong}
 use Rattle.numbers.proofs.Congruences.{cong-eq, cong-sym, _⨾_, cong-mul, cong-times, cong-mod}
+use Rattle.polynomials.specs.Reductions.{Ends, AtMost}
 use Rattle.polynomials.proofs.Filling.{filled-more}
 use Rattle.inverting.specs.Series.{catalan, term, Series}
 
--- x is the term at the place i, modulo k
+-- x is the term at the place i, up to multiples of k, and leaves room in 32 bits
 abbrev pub Sown : ℕ → ℕ → ℕ → ℕ → ℕ → Type 0
-Sown k f2 r i x = (x < k) × Cong k x (term k f2 r i)
+Sown k f2 r i x = Cong k x (term k f2 r i) × (x ≤ 2147483648)
 
--- the places up to j are sown, and power is what the next term multiplies
+-- the places up to j are sown, the others hold 0, and power is what the next term multiplies
 pub record Sowing (k f2 r : ℕ) (s : List ℕ) (power j : ℕ) : Type 0 where
   pub long : length s ≡ 14
+  pub free : getD s 0 0 ≡ 0
   pub places : (i : ℕ) → i < j + 1 → Sown k f2 r i (getD s i 0)
+  pub ends : Ends j s
   pub below : power < k
   pub is : Cong k power (r * ((k - 1) * (f2 * (r * r))) ^ j)
 
-pub sowing-start : (k f2 r : ℕ) (s : List ℕ) → r < k → length s ≡ 14 → getD s 0 0 ≡ 0 → Sowing k f2 r s r 0
+pub zeros : (n : ℕ) → AtMost 0 (replicate n 0)
+zeros zero k = omega arith
+zeros (suc n) zero = omega arith
+zeros (suc n) (suc k) = zeros n k
+
+pub sowing-start : (k f2 r : ℕ) (s : List ℕ) → r < k → length s ≡ 14 → AtMost 0 s → Sowing k f2 r s r 0
 unfolding term
-sowing-start k f2 r s below long first =
+sowing-start k f2 r s below long empty =
     record {
       long = long;
-      places = λ i l. subst (λ (n : ℕ). Sown k f2 r n (getD s n 0)) (omega arith) (omega arith, cong-eq first);
+      free = omega (arith, empty 0);
+      places = λ i l. let e : 0 ≡ i = omega arith in
+          subst (λ (n : ℕ). Sown k f2 r n (getD s n 0)) e (cong-eq (omega (arith, empty 0)), omega (arith, empty 0));
+      ends = λ i l. omega (arith, empty i);
       below = below;
       is = cong-eq (omega (arith, ap (λ (t : ℕ). r * t) (pow-zero ((k - 1) * (f2 * (r * r))))));
     }
@@ -41,13 +54,20 @@ minus k f2 r square product step e f g = whole (k - 1) (whole f2 (whole r (cong-
     whole : (a : ℕ) {b c d : ℕ} → Cong k b c → d ≡ a * b % k → Cong k d (a * c)
     whole a {b} h e = cong-eq e ⨾ cong-sym (cong-mod k (a * b)) ⨾ cong-times a h
 
-pub sowing-turn : (k f2 r step power a v next j : ℕ) (s : List ℕ) → j < 13 → Cong k step ((k - 1) * (f2 * (r * r))) → a ≡ getD catalan j 0
-    → (v ≡ power * a % k) × (v < k) → (next ≡ power * step % k) × (next < k) → Sowing k f2 r s power j → Sowing k f2 r (set s (j + 1) v) next (j + 1)
+-- a power below 2 to the 13th times a Catalan number below 2 to the 18th
+pub product-le : (power a : ℕ) → power ≤ 8192 → a < 262144 → power * a ≤ 2147483648
+product-le power a l h = mul-le-mul {n₁ = power} {m₁ = a} {n₂ = 8192} {m₂ = 262144} l (omega arith)
+
+pub sowing-turn : (k f2 r step power a next j : ℕ) (s : List ℕ) → k ≤ 8192 → j < 13 → Cong k step ((k - 1) * (f2 * (r * r)))
+    → (a ≡ getD catalan j 0) × (a < 262144) → (next ≡ power * step % k) × (next < k) → Sowing k f2 r s power j → Sowing k f2 r (set s (j + 1) (power * a)) next (j + 1)
 unfolding term
-sowing-turn k f2 r step power a v next j s l minus ea (ev, lv) (en, ln) g =
+sowing-turn k f2 r step power a next j s small l minus (ea, la) (en, ln) g =
     record {
-      long = length-set s (j + 1) v ∙ g .long;
-      places = filled-more (Sown k f2 r) s (j + 1) v (omega (arith, g .long)) (g .places) (lv, here);
+      long = length-set s (j + 1) (power * a) ∙ g .long;
+      free = getD-set-other s (j + 1) 0 (power * a) 0 (omega arith) ∙ g .free;
+      places =
+          filled-more (Sown k f2 r) s (j + 1) (power * a) (omega (arith, g .long)) (g .places) (here, product-le power a (omega (arith, g .below)) la);
+      ends = λ i h. getD-set-other s (j + 1) i (power * a) 0 (omega arith) ∙ g .ends i (omega arith);
       below = ln;
       is = cong-eq en ⨾ cong-sym (cong-mod k (power * step)) ⨾ cong-mul (g .is) minus ⨾ cong-eq grown;
     }
@@ -58,15 +78,21 @@ sowing-turn k f2 r step power a v next j s l minus ea (ev, lv) (en, ln) g =
     grown : r * c ^ j * c ≡ r * c ^ (j + 1)
     grown = omega (arith, ap (λ (t : ℕ). r * t) (pow-suc c j), ap (λ (i : ℕ). r * c ^ i) (add-one j))
 
-    here : Cong k v (term k f2 r (j + 1))
-    here =
-        cong-eq ev ⨾ cong-sym (cong-mod k (power * a)) ⨾ cong-mul (g .is) (cong-eq ea)
-        ⨾ cong-eq (omega (arith, ap (λ (i : ℕ). term k f2 r i) (add-one j)))
+    here : Cong k (power * a) (term k f2 r (j + 1))
+    here = cong-mul (g .is) (cong-eq ea) ⨾ cong-eq (omega (arith, ap (λ (i : ℕ). term k f2 r i) (add-one j)))
+
+-- where the terms past j are 0, the series is whole
+sowing-end : (k f2 r power j : ℕ) (s : List ℕ) → ((i : ℕ) → j < i → Cong k 0 (term k f2 r i)) → Sowing k f2 r s power j → Series k f2 r s
+sowing-end k f2 r power j s rest g = record { free = g .free; terms = λ i. place i (decLt i (j + 1)) .0; at-most = λ i. place i (decLt i (j + 1)) .1 }
+  where
+    place : (i : ℕ) → Dec (i < j + 1) → Sown k f2 r i (getD s i 0)
+    place i (yes h) = g .places i h
+    place i (no h) = let z : getD s i 0 ≡ 0 = g .ends i (omega arith) in (cong-eq z ⨾ rest i (omega arith), omega arith)
 
 -- past the thirteenth place there is no Catalan number
-pub sowing-end : (k f2 r power j : ℕ) (s : List ℕ) → 0 < k → 13 ≤ j → Sowing k f2 r s power j → Series k f2 r s
+pub sowing-full : (k f2 r power j : ℕ) (s : List ℕ) → 13 ≤ j → Sowing k f2 r s power j → Series k f2 r s
 unfolding term catalan
-sowing-end k f2 r power j s k0 l g = record { below = λ i. place i (decLt i 14) .0; terms = λ i. place i (decLt i 14) .1 }
+sowing-full k f2 r power j s l g = sowing-end k f2 r power j s (λ i h. cong-eq (sym (none i (omega arith)))) g
   where
     none : (i : ℕ) → 14 ≤ i → term k f2 r i ≡ 0
     none zero h = refl
@@ -74,8 +100,18 @@ sowing-end k f2 r power j s k0 l g = record { below = λ i. place i (decLt i 14)
         let c = (k - 1) * (f2 * (r * r)) in
         omega (arith, ap (λ (t : ℕ). r * (c ^ i * t)) (List·getD-eq-default catalan 0 {n = i} (omega arith)))
 
-    place : (i : ℕ) → Dec (i < 14) → Sown k f2 r i (getD s i 0)
-    place i (yes h) = g .places i (omega arith)
-    place i (no h) =
-        let z : getD s i 0 ≡ 0 = List·getD-eq-default s 0 {n = i} (omega (arith, g .long)) in
-        (omega arith, cong-eq (z ∙ sym (none i (omega arith))))
+-- after a power that is 0 every term is
+pub sowing-short : (k f2 r power j : ℕ) (s : List ℕ) → power ≡ 0 → Sowing k f2 r s power j → Series k f2 r s
+unfolding term
+sowing-short k f2 r power j s e0 g = sowing-end k f2 r power j s none g
+  where
+    c : ℕ
+    c = (k - 1) * (f2 * (r * r))
+
+    none : (i : ℕ) → j < i → Cong k 0 (term k f2 r i)
+    none zero h = absurd (omega arith)
+    none (suc i) h =
+        let d = c ^ (i - j) * getD catalan i 0 in
+        let e : c ^ i ≡ c ^ j * c ^ (i - j) = ap (λ (n : ℕ). c ^ n) (omega arith) ∙ pow-add c j (i - j) in
+        cong-eq (omega (arith, ap (λ (t : ℕ). t * d) e0)) ⨾ cong-mul {x = power} (g .is) (cong-eq {x = d} refl)
+        ⨾ cong-eq (omega (arith, ap (λ (t : ℕ). r * (t * getD catalan i 0)) e))

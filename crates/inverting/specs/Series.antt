@@ -1,9 +1,10 @@
 -- The series that undoes f, before it is brought inside the limits. These are definitions.
+use mathlib.Core.Path.{_≡_}
 use mathlib.Core.List.{List, [], _∷_}
 use Prim.Native.Nat.{ℕ, zero, suc, _*_, _-_, _^_}
 use lib.ListN.{getD}
 use Rattle.numbers.specs.Congruence.{Cong}
-use Rattle.polynomials.specs.Reductions.{Remainders}
+use Rattle.polynomials.specs.Reductions.{AtMost}
 
 -- The Catalan numbers C(0) to C(12).
 unfoldable pub catalan : List ℕ
@@ -14,7 +15,8 @@ unfoldable pub term : ℕ → ℕ → ℕ → ℕ → ℕ
 term k f2 r zero = 0
 term k f2 r (suc j) = r * (((k - 1) * (f2 * (r * r))) ^ j * getD catalan j 0)
 
--- s is the series, each place modulo k.
+-- s is the series: it has no constant, and each place is its term up to multiples of k and at most 2 to the 31st.
 pub record Series (k f2 r : ℕ) (s : List ℕ) : Type 0 where
-  pub below : Remainders k s
+  pub free : getD s 0 0 ≡ 0
   pub terms : (j : ℕ) → Cong k (getD s j 0) (term k f2 r j)
+  pub at-most : AtMost 2147483648 s

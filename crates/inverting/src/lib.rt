@@ -2,7 +2,7 @@
 mod terms;
 
 ghost use mathlib.Core.Path.{_≡_};
-ghost use lib.ListN.{drop};
+ghost use lib.ListN.{length, drop};
 ghost use Rattle.triples.specs.Shuffles.{triple, f};
 ghost use Rattle.polynomials.specs.Inverses.{Inverted};
 ghost use Rattle.inverting.specs.Invertible.{Invertible};
@@ -14,8 +14,9 @@ pub struct Polynomial {
 }
 
 // The coefficients from the place 1 on.
-fn without_constant(p: [u32; 14]) -> [u32; 13]
-    ensures { λ a. ⌜ a ≡ drop 1 p ⌝ }
+fn without_constant(p: &[u32; 14]) -> [u32; 13]
+    requires { ⌜ length (now p) ≡ 14 ⌝ }
+    ensures { λ a. ⌜ a ≡ drop 1 (now (p .entry)) ⌝ }
 {
     let mut a = [0u32; 13];
     let mut j = 0;
@@ -31,9 +32,13 @@ pub fn inverse(k: u32, f1: u32, f2: u32, r: u32) -> Polynomial
     requires { ⌜ Invertible k f1 f2 r ⌝ }
     ensures { λ p. ⌜ Inverted k (f (triple k f1 f2)) (p .degree) (p .a) ⌝ }
 {
-    let s = terms::series(k, f2, r);
-    let g = polynomials::reduce(k, s);
-    let a = without_constant(g);
-    let degree = polynomials::degree(g);
-    Polynomial { degree, a }
+    let mut p = [0u32; 14];
+    let top = terms::series(k, f2, r, &mut p);
+    polynomials::reduce(k, top, &mut p);
+    let degree = polynomials::degree(top, &p);
+    let a = without_constant(&p);
+    Polynomial {
+        degree: degree as u32,
+        a,
+    }
 }

@@ -1,7 +1,8 @@
 // The series that undoes f, before it is brought inside the limits.
 ghost use mathlib.Core.Path.{_≡_};
 ghost use Prim.Native.Nat.{_≤_, _<_};
-ghost use lib.ListN.{getD};
+ghost use lib.ListN.{length, getD};
+ghost use Rattle.polynomials.specs.Reductions.{Ends, AtMost};
 ghost use Rattle.inverting.specs.Series.{catalan, Series};
 
 const CATALAN: [u32; 13] = [
@@ -28,22 +29,25 @@ fn catalan_at(j: usize) -> u32
     CATALAN[j]
 }
 
-// The series, of degree 13.
-pub fn series(k: u32, f2: u32, r: u32) -> [u32; 14]
-    requires { ⌜ (k ≤ 8192) × (f2 < k) × (r < k) ⌝ }
-    ensures { λ s. ⌜ Series k f2 r s ⌝ }
+// The series, written into s, which holds zeros; and its highest place. Once a power is 0 modulo k, so are all that follow. A product
+// of 13 and of 18 bits has 31, and is not brought below k here.
+pub fn series(k: u32, f2: u32, r: u32, s: &mut [u32; 14]) -> usize
+    requires { ⌜ (k ≤ 8192) × (f2 < k) × (r < k) × AtMost 0 (now s) × (length (now s) ≡ 14) ⌝ }
+    ensures { λ top. ⌜ Series k f2 r (now (s .exit)) × (top ≤ 13) × Ends top (now (s .exit)) × (length (now (s .exit)) ≡ 14) ⌝ }
 {
     let minus_one = k - 1;
     let square = polynomials::times(k, r, r);
     let product = polynomials::times(k, f2, square);
     let step = polynomials::times(k, minus_one, product);
-    let mut s = [0u32; 14];
     let mut power = r;
     let mut j = 0;
     while j < 13 {
-        s[j + 1] = polynomials::times(k, power, catalan_at(j));
+        if power == 0 {
+            return j;
+        }
+        s[j + 1] = power * catalan_at(j);
         power = polynomials::times(k, power, step);
         j += 1;
     }
-    s
+    13
 }

@@ -1,5 +1,6 @@
 -- Loops that fill an array from its start, and tables whose rule is one computed test.
 use mathlib.Core.Path.{_≡_, sym, subst}
+use mathlib.Core.Logic.{_≢_}
 use mathlib.Core.Bool.{Bool, true, false}
 use mathlib.Core.List.{List}
 use Prim.Native.Nat.{ℕ, zero, suc, _+_, _-_, _<_}
@@ -9,14 +10,18 @@ use lib.Dec.{T}
 use lib.ListN.{length, getD, set}
 use lib.Seq.{getD-set-same, getD-set-other}
 
--- what holds of each place before j, and of what is put at j, holds of each place before j + 1
-pub filled-more : (P : ℕ → ℕ → Type 0) (xs : List ℕ) (j v : ℕ) → j < length xs → ((i : ℕ) → i < j → P i (getD xs i 0)) → P j v
-    → (i : ℕ) → i < j + 1 → P i (getD (set xs j v) i 0)
-filled-more P xs j v l before here i m = go (ℕ-discrete i j)
+-- what holds of what is put at j, and of what stands at another place i, holds at i afterwards
+pub put : (P : ℕ → ℕ → Type 0) (xs : List ℕ) (j v : ℕ) → j < length xs → P j v → (i : ℕ) → (i ≢ j → P i (getD xs i 0)) → P i (getD (set xs j v) i 0)
+put P xs j v l here i other = go (ℕ-discrete i j)
   where
     go : Dec (i ≡ j) → P i (getD (set xs j v) i 0)
     go (yes e) = subst (λ (n : ℕ). P n (getD (set xs j v) n 0)) (sym e) (subst (λ (x : ℕ). P j x) (sym (getD-set-same xs j v 0 l)) here)
-    go (no n) = subst (λ (x : ℕ). P i x) (sym (getD-set-other xs j i v 0 n)) (before i (omega arith))
+    go (no n) = subst (λ (x : ℕ). P i x) (sym (getD-set-other xs j i v 0 n)) (other n)
+
+-- what holds of each place before j, and of what is put at j, holds of each place before j + 1
+pub filled-more : (P : ℕ → ℕ → Type 0) (xs : List ℕ) (j v : ℕ) → j < length xs → ((i : ℕ) → i < j → P i (getD xs i 0)) → P j v
+    → (i : ℕ) → i < j + 1 → P i (getD (set xs j v) i 0)
+filled-more P xs j v l before here i m = put P xs j v l here i (λ n. before i (omega arith))
 
 -- what holds of each place after d, and at d, holds of each place after d - 1
 pub after-more : (P : ℕ → Type 0) (d : ℕ) → ((i : ℕ) → d < i → P i) → P d → (i : ℕ) → d - 1 < i → P i

@@ -1,8 +1,8 @@
 -- Rising products: k! divides each value, so that the limit times the product is 0 modulo K everywhere.
 use mathlib.Core.Path.{_≡_, refl, sym, ap, subst, _∙_}
 use mathlib.Core.List.{List, [], _∷_}
-use Prim.Native.Nat.{ℕ, zero, suc, _+_, _*_, _<_, _∣_}
-use native.Mathlib.Nat.{one-dvd, dvd-zero, dvd-add, dvd-trans, mul-dvd-mul-left}
+use Prim.Native.Nat.{ℕ, zero, suc, _+_, _*_, _%_, _<_, _∣_}
+use native.Mathlib.Nat.{one-dvd, dvd-zero, dvd-add, dvd-trans, mul-dvd-mul-left, zero-mod}
 use native.Mathlib.Omega.{arith}
 use lib.ListN.{getD}
 use Rattle.numbers.specs.Congruence.{Cong}
@@ -47,6 +47,10 @@ pub rising-top : (n : ℕ) → getD (rising n) n 0 ≡ 1
 unfolding rising
 rising-top zero = refl
 rising-top (suc n) = rising-next n n ∙ omega (arith, rising-top n, ap (λ (t : ℕ). n * t) (rising-past n (suc n) (omega arith)))
+
+-- times t it adds nothing to a constant
+pub nothing-added : (K t n x : ℕ) → 0 < n → x ≡ x + t * (getD (rising n) 0 0 % K)
+nothing-added K t n x n0 = omega (arith, ap (λ (y : ℕ). t * y) (ap (λ (y : ℕ). y % K) (rising-first n n0) ∙ zero-mod K))
 
 -- ---- its values
 

@@ -1,7 +1,7 @@
 -- Bringing a polynomial inside the limits. These are definitions.
 use mathlib.Core.Path.{_≡_}
 use mathlib.Core.List.{List}
-use Prim.Native.Nat.{ℕ, _<_}
+use Prim.Native.Nat.{ℕ, _≤_, _<_}
 use lib.ListN.{getD}
 use lib.IntN.{ℤ, pos}
 use Rattle.polynomials.specs.Polynomials.{coefficient, Agree}
@@ -13,6 +13,10 @@ pub record Reduced (K : ℕ) (p q : List ℤ) : Type 0 where
   pub same : Agree K p q
   pub free : coefficient p 0 ≡ pos 0 → coefficient q 0 ≡ pos 0
 
--- Every place is below K.
-abbrev pub Remainders : ℕ → List ℕ → Type 0
-Remainders K p = (k : ℕ) → getD p k 0 < K
+-- Nothing stands past the place top.
+abbrev pub Ends : ℕ → List ℕ → Type 0
+Ends top p = (k : ℕ) → top < k → getD p k 0 ≡ 0
+
+-- No place is above b.
+abbrev pub AtMost : ℕ → List ℕ → Type 0
+AtMost b p = (k : ℕ) → getD p k 0 ≤ b

@@ -3,19 +3,11 @@ mod products;
 
 ghost use mathlib.Core.Path.{_≡_};
 ghost use Prim.Native.Nat.{_+_, _*_, _%_, _≤_, _<_};
-ghost use lib.ListN.{length};
+ghost use lib.ListN.{length, getD};
 ghost use Rattle.polynomials.specs.Polynomials.{wholes, Degree};
 ghost use Rattle.polynomials.specs.Limits.{Limits};
-ghost use Rattle.polynomials.specs.Reductions.{Remainders, Reduced};
+ghost use Rattle.polynomials.specs.Reductions.{Ends, AtMost, Reduced};
 ghost use Rattle.polynomials.specs.Rising.{Rows, Added};
-
-// (x + a·b) mod k. b is brought below k first, so that 32 bits do.
-fn add_product(k: u32, x: u32, a: u32, b: u32) -> u32
-    requires { ⌜ (0 < k) × (k ≤ 8192) × (x < k) × (a ≤ k) ⌝ }
-    ensures { λ r. ⌜ (r ≡ (x + a * b) % k) × (r < k) ⌝ }
-{
-    (x + a * (b % k)) % k
-}
 
 // a·b mod k, formed in 32 bits.
 pub fn times(k: u32, a: u32, b: u32) -> u32
@@ -25,15 +17,15 @@ pub fn times(k: u32, a: u32, b: u32) -> u32
     a * b % k
 }
 
-// The limits at the places 0 to 13. Each is the one before it, divided by what that has in common with the place, so that no
+// The limits at the places 0 to top. Each is the one before it, divided by what that has in common with the place, so that no
 // factorial is formed.
-pub fn limits(k: u32) -> [u32; 14]
-    requires { ⌜ (1 < k) × (k ≤ 8192) ⌝ }
-    ensures { λ m. ⌜ Limits k 14 m ⌝ }
+pub fn limits(k: u32, top: usize) -> [u32; 14]
+    requires { ⌜ (1 < k) × (k ≤ 8192) × (top ≤ 13) ⌝ }
+    ensures { λ m. ⌜ Limits k (top + 1) m ⌝ }
 {
     let mut m = [k; 14];
     let mut j = 1;
-    while j < 14 {
+    while j <= top {
         let before = m[j - 1];
         m[j] = before / numbers::gcd(before, j as u32);
         j += 1;
@@ -41,49 +33,51 @@ pub fn limits(k: u32) -> [u32; 14]
     m
 }
 
-// t times the n-th rising product is added to q.
+// t times the n-th rising product is added to q below the place n. No sum is brought below k here: 4227858432, 2 to the 32nd less 2 to
+// the 26th, leaves room for a product.
 fn add_rising(rows: &[u32; 91], k: u32, q: &mut [u32; 14], t: u32, n: usize)
-    requires { ⌜ (0 < k) × (k ≤ 8192) × (t ≤ k) × (1 ≤ n) × (n ≤ 13) × Remainders k (now q) × Rows (now rows) × (length (now q) ≡ 14) ⌝ }
+    requires { ⌜ (0 < k) × (k ≤ 8192) × (t ≤ k) × (1 ≤ n) × (n ≤ 13) × AtMost 4227858432 (now q) × Rows (now rows) × (length (now q) ≡ 14) ⌝ }
     ensures { λ _. ⌜ Added k t n (now (q .entry)) (now (q .exit)) × (length (now (q .exit)) ≡ 14) ⌝ }
 {
     let mut j = 1;
-    while j <= n {
-        let c = products::rising(rows, n, j);
-        q[j] = add_product(k, q[j], t, c);
+    while j < n {
+        q[j] += t * (products::rising(rows, n, j) % k);
         j += 1;
     }
 }
 
-// p brought inside the limits, from the top place down: the limit times the rising product is 0 modulo k everywhere, so that
-// multiples of it may be taken away.
-pub fn reduce(k: u32, p: [u32; 14]) -> [u32; 14]
-    requires { ⌜ (1 < k) × (k ≤ 8192) × Remainders k p ⌝ }
-    ensures { λ q. ⌜ Reduced k (wholes p) (wholes q) ⌝ }
+// q brought inside the limits, from the top place down: the limit times the rising product is 0 modulo k everywhere, so that
+// multiples of it may be taken away. A place is brought below k when its turn comes and not before: what is added to it until
+// then, twelve products of 26 bits at most, leaves room in 32 bits.
+pub fn reduce(k: u32, top: usize, q: &mut [u32; 14])
+    requires { ⌜ (1 < k) × (k ≤ 8192) × (top ≤ 13) × (getD (now q) 0 0 < k) × AtMost 2147483648 (now q) × Ends top (now q) × (length (now q) ≡ 14) ⌝ }
+    ensures { λ _. ⌜ Reduced k (wholes (now (q .entry))) (wholes (now (q .exit))) × Ends top (now (q .exit)) × (length (now (q .exit)) ≡ 14) ⌝ }
 {
-    let m = limits(k);
+    let m = limits(k, top);
     let rows = products::rows();
-    let mut q = p;
-    let mut n = 14;
-    while 1 < n {
-        n -= 1;
-        let a = q[n];
+    let mut n = top;
+    while 0 < n {
+        let a = q[n] % k;
         let limit = m[n];
+        q[n] = a;
         if limit <= a {
-            let t = k - (a - a % limit);
-            add_rising(&rows, k, &mut q, t, n);
+            let rest = a % limit;
+            q[n] = rest;
+            add_rising(&rows, k, q, k - (a - rest), n);
         }
+        n -= 1;
     }
-    q
 }
 
-// The highest place that is not 0; 0 if there is none.
-pub fn degree(p: [u32; 14]) -> u32
-    ensures { λ d. ⌜ Degree (wholes p) d × (d ≤ 13) ⌝ }
+// The highest place that is not 0; 0 if there is none. Nothing stands past top.
+pub fn degree(top: usize, p: &[u32; 14]) -> usize
+    requires { ⌜ (top ≤ 13) × Ends top (now p) ⌝ }
+    ensures { λ d. ⌜ Degree (wholes (now (p .entry))) d × (d ≤ 13) ⌝ }
 {
-    let mut d = 13;
+    let mut d = top;
     while 0 < d {
         if p[d] != 0 {
-            return d as u32;
+            return d;
         }
         d -= 1;
     }

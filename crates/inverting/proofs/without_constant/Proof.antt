@@ -31,8 +31,8 @@ add-a c = search needs
 mul-a : tie.Need-mul-a Inv-loop μ-loop
 mul-a c = search needs
 
-array-read-a : tie.Need-array-read-a Inv-loop μ-loop
-array-read-a c = search needs
+element-copy-out-a : tie.Need-element-copy-out-a Inv-loop μ-loop
+element-copy-out-a c = search needs
 
 mul-a-2 : tie.Need-mul-a-2 Inv-loop μ-loop
 mul-a-2 c = search needs
@@ -48,18 +48,18 @@ loop-less c = search needs
 
 loop-again : tie.Need-loop-again Inv-loop μ-loop
 loop-again c =
-    let loop = c .before .loop in (
+    let loop = c .before .before .loop in (
       omega arith,
       search needs,
-      filled-more (λ (i x : ℕ). x ≡ getD (c .before .before .args .t1) (i + 1) 0) (loop .a) (loop .j) _ (omega arith) (loop .inv .2) refl,
+      filled-more (λ (i x : ℕ). x ≡ getD (c .before .before .before .args .p .now) (i + 1) 0) (loop .a) (loop .j) _ (omega arith) (loop .inv .2) refl,
     )
 
 returns : tie.Need-returns Inv-loop μ-loop
 returns c =
-    copied (c .before .before .args .t1) (c .before .loop .a) (omega (arith, c .before .before .good)) (c .before .loop .inv .1)
+    copied (c .before .before .args .p .now) (c .before .loop .a) (c .before .before .pre) (c .before .loop .inv .1)
     (λ i l. c .before .loop .inv .2 i (omega arith))
 
 pub without-constant-spec : {M : Type 1} → statement M
 without-constant-spec =
     tie.close
-    (tie.spec Inv-loop μ-loop loop-holds add-a mul-a array-read-a mul-a-2 array-write-a add-j loop-less loop-again returns)
+    (tie.spec Inv-loop μ-loop loop-holds add-a mul-a element-copy-out-a mul-a-2 array-write-a add-j loop-less loop-again returns)

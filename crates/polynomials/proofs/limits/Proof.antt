@@ -1,6 +1,6 @@
 -- `limits` meets its contract: each limit comes of the one before.
 use mathlib.Core.Path.{_≡_, refl, subst}
-use Prim.Native.Nat.{ℕ, _-_, _≤_}
+use Prim.Native.Nat.{ℕ, _+_, _-_, _≤_}
 use native.Mathlib.Nat.{pos-of-dvd-of-pos}
 use native.Mathlib.Omega.{arith}
 use lib.ListN.{length, getD, replicate}
@@ -12,10 +12,10 @@ use Rattle.polynomials.proofs.limits.Statement.{statement}
 use Rattle.polynomials.proofs.limits.Tie as tie
 
 abbrev Inv-loop : tie.InvT-loop
-Inv-loop k m₀ j₀ m j = (1 ≤ j) × (j ≤ 14) × (length m ≡ 14) × Limits k j m
+Inv-loop k top m₀ j₀ m j = (1 ≤ j) × (j ≤ top + 1) × (length m ≡ 14) × Limits k j m
 
 abbrev μ-loop : tie.MeasureT-loop
-μ-loop k m₀ j₀ m j = 14 - j
+μ-loop k top m₀ j₀ m j = top + 1 - j
 
 loop-holds : tie.Need-loop-holds Inv-loop μ-loop
 loop-holds c =
