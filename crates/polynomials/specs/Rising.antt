@@ -14,9 +14,9 @@ unfoldable pub rising : ℕ → List ℕ
 rising zero = 1 ∷ []
 rising (suc n) = times-linear n 0 (rising n)
 
--- The coefficients of the rising products 1 to 13, of each those at the places 1 to n, one product after the other.
+-- The coefficients of the rising products 2 to 13, of each those at the places 1 to n - 1, one product after the other.
 pub record Rows (rows : List ℕ) : Type 0 where
-  pub place : (n j : ℕ) → 1 ≤ j → j ≤ n → n ≤ 13 → getD rows (n * (n - 1) / 2 + j - 1) 0 ≡ getD (rising n) j 0
+  pub place : (n j : ℕ) → 1 ≤ j → j < n → n ≤ 13 → getD rows ((n - 1) * (n - 2) / 2 + j - 1) 0 ≡ getD (rising n) j 0
 
 -- q is p with t times the n-th rising product added below the place n: each of its coefficients is brought below K first, and no sum
 -- is.

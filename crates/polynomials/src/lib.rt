@@ -35,7 +35,7 @@ pub fn limits(k: u32, top: usize) -> [u32; 14]
 
 // t times the n-th rising product is added to q below the place n. No sum is brought below k here: 4227858432, 2 to the 32nd less 2 to
 // the 26th, leaves room for a product.
-fn add_rising(rows: &[u32; 91], k: u32, q: &mut [u32; 14], t: u32, n: usize)
+fn add_rising(rows: &[u32; 78], k: u32, q: &mut [u32; 14], t: u32, n: usize)
     requires { ⌜ (0 < k) × (k ≤ 8192) × (t ≤ k) × (1 ≤ n) × (n ≤ 13) × AtMost 4227858432 (now q) × Rows (now rows) × (length (now q) ≡ 14) ⌝ }
     ensures { λ _. ⌜ Added k t n (now (q .entry)) (now (q .exit)) × (length (now (q .exit)) ≡ 14) ⌝ }
 {

@@ -1,39 +1,32 @@
-// The coefficients of the rising products y(y + 1)…(y + n - 1), for n from 1 to 13: of each, those at the places 1 to n. There is
-// none at the place 0.
+// The coefficients of the rising products y(y + 1)…(y + n - 1), for n from 2 to 13: of each, those at the places 1 to n - 1. At the
+// place 0 there is none, and the one at the place n is 1.
 ghost use mathlib.Core.Path.{_≡_};
-ghost use Prim.Native.Nat.{_≤_};
+ghost use Prim.Native.Nat.{_≤_, _<_};
 ghost use lib.ListN.{getD};
 ghost use Rattle.polynomials.specs.Rising.{rising, Rows};
 
-const ROWS: [u32; 91] = [
-    1,
-    1,
+const ROWS: [u32; 78] = [
     1,
     2,
     3,
-    1,
     6,
     11,
     6,
-    1,
     24,
     50,
     35,
     10,
-    1,
     120,
     274,
     225,
     85,
     15,
-    1,
     720,
     1764,
     1624,
     735,
     175,
     21,
-    1,
     5040,
     13068,
     13132,
@@ -41,7 +34,6 @@ const ROWS: [u32; 91] = [
     1960,
     322,
     28,
-    1,
     40320,
     109584,
     118124,
@@ -50,7 +42,6 @@ const ROWS: [u32; 91] = [
     4536,
     546,
     36,
-    1,
     362880,
     1026576,
     1172700,
@@ -60,7 +51,6 @@ const ROWS: [u32; 91] = [
     9450,
     870,
     45,
-    1,
     3628800,
     10628640,
     12753576,
@@ -71,7 +61,6 @@ const ROWS: [u32; 91] = [
     18150,
     1320,
     55,
-    1,
     39916800,
     120543840,
     150917976,
@@ -83,7 +72,6 @@ const ROWS: [u32; 91] = [
     32670,
     1925,
     66,
-    1,
     479001600,
     1486442880,
     1931559552,
@@ -96,20 +84,19 @@ const ROWS: [u32; 91] = [
     55770,
     2717,
     78,
-    1,
 ];
 
 // The table.
-pub fn rows() -> [u32; 91]
+pub fn rows() -> [u32; 78]
     ensures { λ r. ⌜ Rows r ⌝ }
 {
     ROWS
 }
 
 // The coefficient at the place j of the n-th rising product, out of the table.
-pub fn rising(rows: &[u32; 91], n: usize, j: usize) -> u32
-    requires { ⌜ (1 ≤ j) × (j ≤ n) × (n ≤ 13) × Rows (now rows) ⌝ }
+pub fn rising(rows: &[u32; 78], n: usize, j: usize) -> u32
+    requires { ⌜ (1 ≤ j) × (j < n) × (n ≤ 13) × Rows (now rows) ⌝ }
     ensures { λ r. ⌜ r ≡ getD (rising n) j 0 ⌝ }
 {
-    rows[n * (n - 1) / 2 + j - 1]
+    rows[(n - 1) * (n - 2) / 2 + j - 1]
 }

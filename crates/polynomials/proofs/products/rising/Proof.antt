@@ -6,12 +6,15 @@ use borrow.Author.Needs.{needs}
 use Rattle.polynomials.proofs.products.rising.Statement.{statement}
 use Rattle.polynomials.proofs.products.rising.Tie as tie
 
--- the index is below 91
-product-le : (n : ℕ) → n ≤ 13 → n * (n - 1) ≤ 156
-product-le n h = mul-le-mul {n₁ = n} {m₁ = n - 1} {n₂ = 13} {m₂ = 12} (omega arith) (omega arith)
+-- the index is below 78
+product-le : (n : ℕ) → n ≤ 13 → (n - 1) * (n - 2) ≤ 132
+product-le n h = mul-le-mul {n₁ = n - 1} {m₁ = n - 2} {n₂ = 12} {m₂ = 11} (omega arith) (omega arith)
 
 sub-result : tie.Need-sub-result
 sub-result c = search needs
+
+sub-result-2 : tie.Need-sub-result-2
+sub-result-2 c = search needs
 
 mul-result : tie.Need-mul-result
 mul-result c = omega (arith, product-le (c .args .n) (omega arith))
@@ -19,8 +22,8 @@ mul-result c = omega (arith, product-le (c .args .n) (omega arith))
 add-result : tie.Need-add-result
 add-result c = omega (arith, product-le (c .args .n) (omega arith))
 
-sub-result-2 : tie.Need-sub-result-2
-sub-result-2 c = search needs
+sub-result-3 : tie.Need-sub-result-3
+sub-result-3 c = search needs
 
 mul-result-2 : tie.Need-mul-result-2
 mul-result-2 c = omega (arith, product-le (c .args .n) (omega arith))
@@ -33,4 +36,4 @@ returns c = c .before .pre .3 .place _ _ (omega arith) (omega arith) (omega arit
 
 pub rising-spec : {M : Type 1} → statement M
 rising-spec =
-    tie.close (tie.spec sub-result mul-result add-result sub-result-2 mul-result-2 element-copy-out-result returns)
+    tie.close (tie.spec sub-result sub-result-2 mul-result add-result sub-result-3 mul-result-2 element-copy-out-result returns)

@@ -12,15 +12,15 @@ use Rattle.polynomials.proofs.products.rows.Statement.{statement}
 use Rattle.polynomials.proofs.products.rows.Tie as tie
 
 right : List ℕ → ℕ → ℕ → Bool
-right rows n j = eqb (getD rows (n * (n - 1) / 2 + j - 1) 0) (getD (rising n) j 0)
+right rows n j = eqb (getD rows ((n - 1) * (n - 2) / 2 + j - 1) 0) (getD (rising n) j 0)
 
-rule : {rows : List ℕ} → T (every 14 (λ (n : ℕ). every n (λ (i : ℕ). right rows n (i + 1)))) → Rows rows
+rule : {rows : List ℕ} → T (every 14 (λ (n : ℕ). every (n - 1) (λ (i : ℕ). right rows n (i + 1)))) → Rows rows
 unfolding right
 rule {rows} test = record {
   place = λ n j low high top.
-      eqb→eq (getD rows (n * (n - 1) / 2 + j - 1) 0) (getD (rising n) j 0)
+      eqb→eq (getD rows ((n - 1) * (n - 2) / 2 + j - 1) 0) (getD (rising n) j 0)
       (subst (λ (i : ℕ). T (right rows n i)) (omega arith)
-      (passes n (λ (i : ℕ). right rows n (i + 1)) (passes 14 (λ (n : ℕ). every n (λ (i : ℕ). right rows n (i + 1))) test n (omega arith)) (j - 1) (omega arith)));
+      (passes (n - 1) (λ (i : ℕ). right rows n (i + 1)) (passes 14 (λ (n : ℕ). every (n - 1) (λ (i : ℕ). right rows n (i + 1))) test n (omega arith)) (j - 1) (omega arith)));
 }
 
 returns : tie.Need-returns
