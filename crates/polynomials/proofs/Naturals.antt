@@ -12,6 +12,7 @@ use lib.IntN.{ℤ, pos, _+ℤ_, _*ℤ_}
 use Rattle.numbers.specs.Congruence.{Cong}
 use Rattle.numbers.proofs.Congruences.{cong-eq, cong-sym, cong-add, cong-mul, cong-times, _⨾_}
 use Rattle.polynomials.specs.Polynomials.{value, coefficient, wholes, Degree, Congruent}
+use Rattle.polynomials.specs.Reductions.{Ends}
 use Rattle.polynomials.proofs.Differences.{positive, negative, Difference, parts, difference-add, difference-mul, congruent-pos}
 
 abbrev pub valueℕ : List ℕ → ℕ → ℕ
@@ -145,7 +146,7 @@ wholes-value (a ∷ p) y = ap (λ (t : ℤ). pos a +ℤ pos y *ℤ t) (wholes-va
 pub wholes-congruent : {K : ℕ} (p q : List ℕ) (x y : ℕ) → Cong K (valueℕ p x) (valueℕ q y) → Congruent K (value (wholes p) (pos x)) (value (wholes q) (pos y))
 wholes-congruent {K} p q x y c = subst₂ (λ (s t : ℤ). Congruent K s t) (sym (wholes-value p x)) (sym (wholes-value q y)) (congruent-pos c)
 
-pub wholes-degree : (p : List ℕ) (D : ℕ) → (0 < D → getD p D 0 ≢ 0) → ((k : ℕ) → D < k → getD p k 0 ≡ 0) → Degree (wholes p) D
+pub wholes-degree : (p : List ℕ) (D : ℕ) → (0 < D → getD p D 0 ≢ 0) → Ends D p → Degree (wholes p) D
 wholes-degree p D top past =
     record {
       top = λ h e. top h (ap positive (sym (wholes-place p D) ∙ e));

@@ -7,7 +7,7 @@ use lib.ListN.{length, getD, replicate}
 use borrow.Author.Needs.{needs}
 use Rattle.polynomials.specs.Limits.{Limit, Limits}
 use Rattle.polynomials.proofs.Filling.{filled-more}
-use Rattle.polynomials.proofs.Limiting.{limit-first, limit-next, limit-pos}
+use Rattle.polynomials.proofs.Limiting.{limit-first, limit-next}
 use Rattle.polynomials.proofs.limits.Statement.{statement}
 use Rattle.polynomials.proofs.limits.Tie as tie
 
@@ -38,9 +38,7 @@ gcd-requires : tie.Need-gcd-requires Inv-loop μ-loop
 gcd-requires c κs = search needs
 
 div-m : tie.Need-div-m Inv-loop μ-loop
-div-m c =
-    omega
-    (arith, pos-of-dvd-of-pos (c .gcd .ensures .left) (limit-pos (omega arith) (c .before .before .loop .inv .3 (c .before .before .loop .j - 1) (omega arith))))
+div-m c = omega (arith, pos-of-dvd-of-pos {n = c .before .before .loop .j} (c .gcd .ensures .right) (omega arith))
 
 mul-m : tie.Need-mul-m Inv-loop μ-loop
 mul-m c = search needs
