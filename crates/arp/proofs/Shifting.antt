@@ -1,11 +1,10 @@
 -- The shifts, the addresses that they give, and that one form fits.
 use mathlib.Core.Path.{_≡_, refl, sym, ap, subst, _∙_}
 use mathlib.Core.List.{List}
-use Prim.Native.Nat.{ℕ, zero, suc, _+_, _*_, _/_, _%_, _≤_, _<_}
+use Prim.Native.Nat.{ℕ, zero, suc, _+_, _*_, _/_, _%_, _<_}
 use native.Mathlib.Nat.{mod-lt, mod-add-div', le-antisymm, pos-of-dvd-of-pos}
 use native.Mathlib.Omega.{arith}
 use lib.ListN.{getD}
-use Rattle.numbers.specs.Congruence.{Cong}
 use Rattle.numbers.proofs.Congruences.{cong-eq, cong-sym, cong-same, cong-add, cong-mod, _⨾_}
 use Rattle.triples.specs.declared.Triple.{Triple}
 use Rattle.triples.specs.Shuffles.{triple, f, Shuffle, Written, oddForm}

@@ -8,7 +8,7 @@ use native.Mathlib.Omega.{arith}
 use lib.ListN.{length, getD, take}
 use Rattle.cards.specs.declared.lines.Line.{Line}
 use Rattle.cards.specs.Texts.{newline, Appended}
-use Rattle.cards.specs.Cards.{unreadable-word, CardOf, CardAt}
+use Rattle.cards.specs.Cards.{unreadable-word, CardAt}
 use Rattle.cards.specs.Lines.{Holding}
 use Rattle.cards.specs.Output.{ending, Output, Goes, Took, ByteTaken, Ended, FedBy}
 use Rattle.cards.proofs.Telling.{card-one}

@@ -8,9 +8,7 @@ use native.Mathlib.Omega.{arith}
 use lib.ListN.{length, set, take, length-append}
 use lib.Seq.{take-all, length-take-le, take-append-le, take-suc-set}
 use Rattle.cards.specs.declared.lines.Line.{Line}
-use Rattle.cards.specs.declared.reading.Reading.{Reading}
 use Rattle.cards.specs.Texts.{space, Reads}
-use Rattle.cards.specs.Reading.{ReadAs}
 use Rattle.cards.specs.Cards.{CardOf, unreadable, refused, accepted, CardAt}
 use Rattle.cards.specs.Lines.{Holding}
 

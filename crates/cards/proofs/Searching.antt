@@ -8,7 +8,7 @@ use native.Mathlib.Decide.{ℕ-discrete}
 use native.Mathlib.Omega.{arith}
 use lib.ListN.{length, getD, take, drop, take-append-drop, drop-of-length-le, length-drop}
 use lib.Seq.{drop-cons, length-take-le}
-use Rattle.cards.specs.Texts.{space, Digits, value, Number}
+use Rattle.cards.specs.Texts.{space, Digits, value}
 use Rattle.cards.specs.Fronts.{Stops, Run, Front, Search, Anything, Spaced, Nothing}
 use Rattle.cards.proofs.Digiting.{no-digit-low}
 

@@ -1,16 +1,14 @@
 -- When every prime of one number divides another: by a power, by squares, and the part of a number that is left when it fails.
-use mathlib.Core.Path.{_≡_, refl, sym, ap, _∙_, subst}
-use mathlib.Core.Logic.{_≢_, _⊎_, inl, inr}
-use Prim.Native.Nat.{ℕ, zero, suc, _+_, _-_, _*_, _/_, _%_, _^_, _≤_, _<_, _∣_}
-use native.Mathlib.Nat.{dvd-refl, dvd-zero, dvd-trans, dvd-mod-iff, dvd-add-iff-left, dvd-mul-right-of-dvd, eq-one-of-dvd-one, one-dvd, mul-comm, mul-assoc, mul-dvd-mul, pow-suc, pow-zero, pos-of-dvd-of-pos, div-mul-cancel, mul-div-cancel', div-lt-self, mul-le-mul-right, mod-eq-of-lt, mod-eq-zero-of-dvd}
+use mathlib.Core.Path.{_≡_, sym, ap, _∙_, subst}
+use Prim.Native.Nat.{ℕ, zero, suc, _+_, _*_, _/_, _%_, _^_, _≤_, _<_, _∣_}
+use native.Mathlib.Nat.{dvd-refl, dvd-zero, dvd-trans, dvd-mod-iff, dvd-add-iff-left, dvd-mul-right-of-dvd, eq-one-of-dvd-one, one-dvd, mul-comm, mul-assoc, mul-dvd-mul, pow-suc, pow-zero, div-mul-cancel, div-lt-self, mul-le-mul-right, mod-eq-of-lt, mod-eq-zero-of-dvd}
 use native.Mathlib.Decide.{ℕ-discrete}
 use native.Mathlib.Omega.{arith}
 use lib.Pow.{pow-add}
 use lib.Dec.{eqb}
 use borrow.Author.Tests.{eqb-true, eqb-false}
 use Rattle.numbers.specs.Divisors.{IsGcd, Coprime, Absorbed, Decides}
-use Rattle.numbers.specs.Congruence.{Cong}
-use Rattle.numbers.proofs.Dividing.{dvd-make, quotient, gcd-of, gcd-one, euclid, coprime-dvd, factors-pos}
+use Rattle.numbers.proofs.Dividing.{dvd-make, gcd-of, gcd-one, euclid, coprime-dvd, factors-pos}
 use Rattle.numbers.proofs.Congruences.{cong-mod, cong-sym, cong-pow, cong-zero, zero-cong, _⨾_, cong-eq, pow-times}
 
 -- ---- by a power

@@ -1,11 +1,11 @@
 -- Divisors, Euclid's algorithm and Bezout's equation.
 use mathlib.Core.Path.{_≡_, refl, sym, ap, _∙_, subst, subst₂}
-use mathlib.Core.Logic.{_≢_, _⊎_, inl, inr, ⊎-elim, _↔_}
+use mathlib.Core.Logic.{_⊎_, inl, inr, _↔_}
 use Prim.Native.Nat.{ℕ, zero, suc, _+_, _-_, _*_, _/_, _%_, _≤_, _<_, _∣_}
-use native.Mathlib.Nat.{dvd-refl, dvd-zero, dvd-trans, dvd-antisymm, dvd-mod-iff, dvd-mul-left, dvd-mul-right, dvd-mul-left-of-dvd, dvd-mul-right-of-dvd, dvd-add, dvd-add-iff-left, dvd-add-iff-right, dvd-of-mul-dvd-mul-right, mul-dvd-mul, mul-dvd-mul-left, mul-dvd-mul-right, mul-div-cancel', eq-zero-of-zero-dvd, eq-zero-or-pos, one-dvd, mul-comm, mul-assoc, mul-add, add-mul, eq-one-of-dvd-one, add-mul-mod-self-right, mod-eq-of-lt, pos-of-dvd-of-pos, div-mul-cancel, div-lt-self}
-use native.Mathlib.Decide.{decLt, ℕ-discrete}
+use native.Mathlib.Nat.{dvd-refl, dvd-zero, dvd-trans, dvd-antisymm, dvd-mod-iff, dvd-mul-right, dvd-mul-left-of-dvd, dvd-add, dvd-add-iff-left, dvd-of-mul-dvd-mul-right, mul-dvd-mul, mul-dvd-mul-left, mul-dvd-mul-right, mul-div-cancel', eq-zero-or-pos, one-dvd, mul-comm, eq-one-of-dvd-one, pos-of-dvd-of-pos, div-mul-cancel}
+use native.Mathlib.Decide.{decLt}
 use native.Mathlib.Omega.{arith}
-use Rattle.numbers.specs.Divisors.{IsGcd, Coprime, Absorbed}
+use Rattle.numbers.specs.Divisors.{IsGcd, Coprime}
 
 -- ---- what a divisor is, by a product
 

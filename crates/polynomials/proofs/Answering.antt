@@ -4,7 +4,7 @@ use mathlib.Core.List.{List, _∷_}
 use Prim.Native.Nat.{ℕ, suc, _<_}
 use native.Mathlib.Omega.{arith}
 use lib.Dec.{T}
-use lib.ListN.{length, getD}
+use lib.ListN.{length}
 use lib.Seq.{ext-getD}
 use Rattle.polynomials.specs.Inverses.{InversePolynomial, from-first, Inverted}
 use Rattle.polynomials.proofs.Differences.{positive}

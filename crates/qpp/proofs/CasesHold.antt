@@ -12,7 +12,7 @@ use Rattle.triples.specs.Shuffles.{triple, f}
 use Rattle.arp.specs.Arp.{shift, Arp}
 use Rattle.arp.proofs.Periods.{period-double}
 use Rattle.arp.proofs.Shifting.{arp-form}
-use Rattle.qpp.specs.Cases.{Case, Holds, All, cases, letters}
+use Rattle.qpp.specs.Cases.{All, cases, letters}
 use Rattle.qpp.proofs.Answers.{answered}
 use Rattle.qpp.proofs.Judging.{accepted}
 use Rattle.qpp.proofs.Trying.{every, judged-as, same-below}

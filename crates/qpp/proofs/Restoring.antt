@@ -1,6 +1,6 @@
 -- Moving a block: no second content fits, each direction undoes the other, and each symbol occurs as often after as before. For symbols
 -- of any kind.
-use mathlib.Core.Path.{_≡_, refl, sym, ap, _∙_}
+use mathlib.Core.Path.{_≡_, sym, ap, _∙_}
 use mathlib.Core.List.{List}
 use mathlib.Core.Bool.{Bool}
 use Prim.Native.Nat.{ℕ}
@@ -10,9 +10,9 @@ use Rattle.permuting.specs.Permutations.{count}
 use Rattle.permuting.proofs.Keeping.{cleared-one}
 use Rattle.permuting.proofs.Counting.{interleaved-count}
 use Rattle.permuting.proofs.Permuting.{interleaved-one, deinterleaved-one, interleave-then-deinterleave, deinterleave-then-interleave, deinterleaved-count}
-use Rattle.moving.specs.Moves.{Ready, InterleavedBy, DeinterleavedBy}
+use Rattle.moving.specs.Moves.{Ready}
 use Rattle.triples.specs.declared.Triple.{Triple}
-use Rattle.qpp.specs.Refusals.{First, Answer}
+use Rattle.qpp.specs.Refusals.{Answer}
 use Rattle.qpp.specs.Moving.{block-tests, Interleaves, Deinterleaves}
 use Rattle.qpp.proofs.Answers.{answer-one, answer-one-when}
 use Rattle.qpp.proofs.Judging.{movable-ready}

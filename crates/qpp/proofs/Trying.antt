@@ -1,15 +1,15 @@
 -- Small numbers tried one by one, so that a case is a computation.
 use mathlib.Core.Path.{_≡_, refl, sym, ap, subst, _∙_}
-use mathlib.Core.Logic.{_≢_, _⊎_, inl, inr}
+use mathlib.Core.Logic.{_≢_, inl, inr}
 use mathlib.Core.Bool.{Bool, true, false, cond}
-use mathlib.Core.List.{List, [], _∷_}
+use mathlib.Core.List.{[], _∷_}
 use Prim.Native.Nat.{ℕ, zero, suc, _≤_, _<_}
 use native.Mathlib.Decide.{ℕ-discrete}
 use native.Mathlib.Omega.{arith}
 use lib.Dec.{T, eqb, leb, ltb, eqb→eq}
 use borrow.Author.Tests.{eq-eqb, eqb-true, eqb-false, leb-true, leb-false, ltb-true, ltb-false}
 use Rattle.triples.specs.declared.Triple.{Triple}
-use Rattle.triples.specs.Shuffles.{f, InRange, Permutes, Shuffle}
+use Rattle.triples.specs.Shuffles.{f, InRange, Permutes}
 use Rattle.qpp.specs.Refusals.{First, shuffle-then, no-shuffle}
 use Rattle.qpp.proofs.Judging.{refuse-length, refuse-coefficient, refuse-shuffle, shuffle-passes}
 

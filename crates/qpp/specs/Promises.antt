@@ -12,7 +12,7 @@ use Rattle.spreading.specs.Spread.{Spread}
 use Rattle.qpp.specs.declared.shuffles.Value.{Value}
 use Rattle.qpp.specs.declared.inverses.InverseForm.{InverseForm}
 use Rattle.qpp.specs.declared.lists.ArpForm.{ArpForm}
-use Rattle.qpp.specs.Refusals.{Test, First, Answer, shuffle-then, no-position, no-list}
+use Rattle.qpp.specs.Refusals.{First, Answer, shuffle-then, no-position, no-list}
 
 -- Acceptance: the number.
 abbrev pub Acceptance : Triple → ℕ → Type 0

@@ -1,13 +1,13 @@
 -- Which triples permute: in the odd form, those whose f1 shares no factor with K and whose f2 has every prime of K.
-use mathlib.Core.Path.{_≡_, refl, sym, ap, _∙_, subst}
+use mathlib.Core.Path.{_≡_, sym, ap, _∙_, subst}
 use mathlib.Core.Logic.{_≢_, _⊎_, inl, inr}
-use Prim.Native.Nat.{ℕ, _+_, _-_, _*_, _/_, _%_, _≤_, _<_, _∣_}
-use native.Mathlib.Nat.{dvd-refl, dvd-zero, dvd-trans, dvd-mul-right, dvd-mul-right-of-dvd, dvd-add-iff-left, eq-zero-or-pos, mul-comm, le-of-dvd, pos-of-dvd-of-pos, mul-le-mul-right, one-mul}
+use Prim.Native.Nat.{ℕ, _+_, _-_, _*_, _/_, _%_, _<_, _∣_}
+use native.Mathlib.Nat.{dvd-refl, dvd-zero, dvd-mul-right, dvd-mul-right-of-dvd, dvd-add-iff-left, eq-zero-or-pos, mul-comm, le-of-dvd, pos-of-dvd-of-pos, mul-le-mul-right, one-mul}
 use native.Mathlib.Decide.{ℕ-discrete}
 use native.Mathlib.Omega.{arith}
 use mathlib.Core.Bool.{Bool, true, false}
 use Rattle.numbers.specs.Divisors.{IsGcd, Coprime, Absorbed, Decides}
-use Rattle.numbers.proofs.Dividing.{factors-pos, dvd-make, quotient, euclid, unit-of, Unit-of, coprime-swap, gcd-one, gcd-of}
+use Rattle.numbers.proofs.Dividing.{factors-pos, dvd-make, quotient, euclid, unit-of, Unit-of, gcd-one, gcd-of}
 use Rattle.numbers.proofs.Absorbing.{Rest, rest-of, coprime-plus}
 use Rattle.triples.specs.declared.Triple.{Triple}
 use Rattle.triples.specs.Shuffles.{f, InRange, Permutes, Shuffle, oddForm}

@@ -1,12 +1,10 @@
 -- When two positions share a value of f: by the difference of the two values, which is a product.
-use mathlib.Core.Path.{_≡_, refl, sym, ap, _∙_, subst}
-use mathlib.Core.Logic.{_≢_}
+use mathlib.Core.Path.{_≡_, refl, sym, ap, _∙_}
 use Prim.Native.Nat.{ℕ, _+_, _-_, _*_, _/_, _%_, _≤_, _<_, _∣_}
 use native.Mathlib.Nat.{mul-le-mul, dvd-mul-right, dvd-mul-right-of-dvd, div-add-mod, mod-lt, le-of-dvd}
 use native.Mathlib.Decide.{decLt}
 use native.Mathlib.Omega.{arith}
-use Rattle.numbers.specs.Congruence.{Cong}
-use Rattle.numbers.proofs.Congruences.{cong-eq, cong-sym, cong-same, same-cong, cong-zero, zero-cong, cong-cancel, cong-add, cong-mul, cong-mod, cong-dvd, _⨾_}
+use Rattle.numbers.proofs.Congruences.{cong-eq, cong-sym, cong-same, same-cong, cong-zero, zero-cong, cong-cancel, cong-add, cong-dvd, _⨾_}
 use Rattle.triples.specs.declared.Triple.{Triple}
 use Rattle.triples.specs.Shuffles.{f, Permutes}
 

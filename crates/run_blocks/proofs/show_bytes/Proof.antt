@@ -1,6 +1,5 @@
 -- `show_bytes` ends.
 use Prim.Native.Nat.{_-_, _≤_}
-use mathlib.Core.Path.{_≡_}
 use lib.ListN.{length}
 use borrow.Author.Needs.{needs}
 use Rattle.run_blocks.proofs.show_bytes.Statement.{statement}

@@ -1,8 +1,5 @@
 -- `permutes` meets its contract, by the rule.
-use mathlib.Core.Path.{subst}
 use native.Mathlib.Omega.{arith}
-use Rattle.triples.specs.declared.Triple.{Triple}
-use Rattle.triples.specs.Shuffles.{InRange}
 use Rattle.triples.proofs.Forms.{in-form}
 use Rattle.triples.proofs.Rule.{refused-by-gcd, decided-by-absorption}
 use borrow.Author.Needs.{needs}

@@ -4,7 +4,6 @@ use Prim.Native.Nat.{ℕ}
 use native.Mathlib.Omega.{arith}
 use Rattle.numbers.proofs.Absorbing.{absorbed-power}
 use Rattle.polynomials.proofs.Answering.{inverted-same}
-use Rattle.triples.specs.declared.Triple.{Triple}
 use Rattle.triples.specs.Shuffles.{triple, f}
 use Rattle.triples.proofs.Rule.{odd-unit}
 use Rattle.qpp.proofs.Judging.{accepted, refuse-triple, answer-all}

@@ -1,6 +1,5 @@
 -- `plus` meets its contract.
-use mathlib.Core.Path.{sym, ap, _∙_}
-use Prim.Native.Nat.{ℕ, _%_}
+use mathlib.Core.Path.{sym, _∙_}
 use native.Mathlib.Nat.{mod-eq-of-lt, mod-eq-sub-mod}
 use native.Mathlib.Omega.{arith}
 use borrow.Author.Needs.{needs}

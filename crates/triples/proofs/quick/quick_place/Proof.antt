@@ -1,5 +1,5 @@
 -- `quick_place` meets its contract: each product has a factor below the scale and one of at most 8192.
-use Prim.Native.Nat.{_+_, _*_, _%_, _<_}
+use Prim.Native.Nat.{_+_, _*_, _%_}
 use native.Mathlib.Nat.{mod-lt}
 use native.Mathlib.Omega.{arith}
 use borrow.Author.Needs.{needs}
