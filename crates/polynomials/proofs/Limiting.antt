@@ -2,8 +2,8 @@
 -- at the place before by one division.
 use mathlib.Core.Path.{_≡_, sym, ap, subst, _∙_}
 use mathlib.Core.Logic.{_↔_}
-use Prim.Native.Nat.{ℕ, zero, suc, _*_, _-_, _/_, _≤_, _<_, _∣_}
-use native.Mathlib.Nat.{div-mul-cancel, dvd-refl, dvd-mul-right-of-dvd, one-dvd, mul-comm, mul-one, eq-of-mul-eq-mul-right, le-mul-of-pos-right, mul-pos}
+use Prim.Native.Nat.{ℕ, zero, suc, _*_, _-_, _/_, _<_, _∣_}
+use native.Mathlib.Nat.{div-mul-cancel, dvd-refl, dvd-mul-right-of-dvd, one-dvd, mul-comm, mul-one, eq-of-mul-eq-mul-right, mul-pos}
 use native.Mathlib.Omega.{arith}
 use Rattle.numbers.specs.Divisors.{IsGcd, Coprime}
 use Rattle.numbers.proofs.Dividing.{gcd-of, gcd-unique, gcd-parts, gcd-times, gcd-exact, euclid, coprime-dvd, factors-pos}
@@ -23,9 +23,6 @@ module _ {K : ℕ} (pos : 0 < K) where
 
   pub limit-pos : {k m : ℕ} → Limit K k m → 0 < m
   limit-pos L = limit-parts L .0
-
-  pub limit-le : {k m : ℕ} → Limit K k m → m ≤ K
-  limit-le {k} {m} L = omega (arith, L .product, le-mul-of-pos-right m (limit-parts L .1))
 
   pub limit-one : {k m n : ℕ} → Limit K k m → Limit K k n → m ≡ n
   limit-one {k} {m} {n} L M =
