@@ -36,9 +36,9 @@ pub fn series(k: u32, f2: u32, r: u32, s: &mut [u32; 14]) -> usize
     ensures { λ top. ⌜ Series k f2 r (now (s .exit)) × (top ≤ 13) × Ends top (now (s .exit)) × (length (now (s .exit)) ≡ 14) ⌝ }
 {
     let minus_one = k - 1;
-    let square = polynomials::times(k, r, r);
-    let product = polynomials::times(k, f2, square);
-    let step = polynomials::times(k, minus_one, product);
+    let square = numbers::times(k, r, r);
+    let product = numbers::times(k, f2, square);
+    let step = numbers::times(k, minus_one, product);
     let mut power = r;
     let mut j = 0;
     while j < 13 {
@@ -46,7 +46,7 @@ pub fn series(k: u32, f2: u32, r: u32, s: &mut [u32; 14]) -> usize
             return j;
         }
         s[j + 1] = power * catalan_at(j);
-        power = polynomials::times(k, power, step);
+        power = numbers::times(k, power, step);
         j += 1;
     }
     13

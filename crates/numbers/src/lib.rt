@@ -11,12 +11,12 @@ pub fn gcd(a: u32, b: u32) -> u32
     if b == 0 { a } else { gcd(b, a % b) }
 }
 
-// x·x mod k.
-fn square(x: u32, k: u32) -> u32
-    requires { ⌜ (0 < k) × (k ≤ 8192) × (x < k) ⌝ }
-    ensures { λ r. ⌜ (r ≡ x * x % k) × (r < k) ⌝ }
+// a·b mod k.
+pub fn times(k: u32, a: u32, b: u32) -> u32
+    requires { ⌜ (0 < k) × (a ≤ 8192) × (b ≤ 8192) ⌝ }
+    ensures { λ r. ⌜ (r ≡ a * b % k) × (r < k) ⌝ }
 {
-    x * x % k
+    a * b % k
 }
 
 // Does every prime that divides k divide f? A prime stands at most thirteen times in k, so that f to the
@@ -25,10 +25,10 @@ pub fn absorbs(k: u32, f: u32) -> bool
     requires { ⌜ (0 < k) × (k ≤ 8192) × (f < k) ⌝ }
     ensures { λ r. ⌜ Decides (Absorbed k f) r ⌝ }
 {
-    let second = square(f, k);
-    let fourth = square(second, k);
-    let eighth = square(fourth, k);
-    square(eighth, k) == 0
+    let second = times(k, f, f);
+    let fourth = times(k, second, second);
+    let eighth = times(k, fourth, fourth);
+    times(k, eighth, eighth) == 0
 }
 
 // The reciprocal of a modulo k. Each remainder of Euclid's algorithm is kept with its multiplier: the number

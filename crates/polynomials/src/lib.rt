@@ -2,20 +2,12 @@
 mod products;
 
 ghost use mathlib.Core.Path.{_≡_};
-ghost use Prim.Native.Nat.{_+_, _*_, _%_, _≤_, _<_};
+ghost use Prim.Native.Nat.{_+_, _≤_, _<_};
 ghost use lib.ListN.{length, getD};
 ghost use Rattle.polynomials.specs.Polynomials.{wholes, Degree};
 ghost use Rattle.polynomials.specs.Limits.{Limits};
 ghost use Rattle.polynomials.specs.Reductions.{Ends, AtMost, Reduced};
 ghost use Rattle.polynomials.specs.Rising.{Rows, Added};
-
-// a·b mod k, formed in 32 bits.
-pub fn times(k: u32, a: u32, b: u32) -> u32
-    requires { ⌜ (0 < k) × (a < 8192) × (b < 262144) ⌝ }
-    ensures { λ r. ⌜ (r ≡ a * b % k) × (r < k) ⌝ }
-{
-    a * b % k
-}
 
 // The limits at the places 0 to top. Each is the one before it, divided by what that has in common with the place, so that no
 // factorial is formed.

@@ -1,15 +1,15 @@
--- `times` meets its contract: numbers of 13 and of 18 bits have a product of 31.
+-- `times` meets its contract: the product is at most 8192·8192.
 use mathlib.Core.Path.{refl}
 use Prim.Native.Nat.{_*_}
 use native.Mathlib.Nat.{mod-lt, mul-le-mul}
 use native.Mathlib.Omega.{arith}
 use borrow.Author.Needs.{needs}
-use Rattle.polynomials.proofs.times.Statement.{statement}
-use Rattle.polynomials.proofs.times.Tie as tie
+use Rattle.numbers.proofs.times.Statement.{statement}
+use Rattle.numbers.proofs.times.Tie as tie
 
 mul-result : tie.Need-mul-result
 mul-result c =
-    omega (arith, mul-le-mul {n₁ = c .args .a} {m₁ = c .args .b} {n₂ = 8191} {m₂ = 262143} (omega arith) (omega arith))
+    omega (arith, mul-le-mul {n₁ = c .args .a} {m₁ = c .args .b} {n₂ = 8192} {m₂ = 8192} (omega arith) (omega arith))
 
 rem-result : tie.Need-rem-result
 rem-result c = search needs
