@@ -8,7 +8,7 @@ use native.Mathlib.Omega.{arith}
 use lib.ListN.{length, getD, take, drop-of-length-le}
 use lib.Seq.{drop-cons, take-all, length-take-le}
 use Rattle.numbers.specs.Divisors.{Decides}
-use Rattle.cards.specs.Texts.{Digit, Digits, value}
+use Rattle.cards.specs.Texts.{Digit, Digits, spelt}
 use Rattle.cards.specs.Fronts.{Stops, Run}
 use Rattle.cards.proofs.Appending.{take-next}
 
@@ -56,25 +56,25 @@ run-ends text i d h l = record { within = h; digits = d; stops = subst Stops (sy
 
 -- ---- the value
 
-pub value-then : (n : ℕ) (text : List ℕ) (byte : ℕ) → value n (text ++ (byte ∷ [])) ≡ 10 * value n text + (byte - 48)
+pub value-then : (n : ℕ) (text : List ℕ) (byte : ℕ) → spelt n (text ++ (byte ∷ [])) ≡ 10 * spelt n text + (byte - 48)
 value-then n [] byte = refl
 value-then n (b ∷ text) byte = value-then (10 * n + (b - 48)) text byte
 
-value-below : (n : ℕ) (text : List ℕ) → Digits text → value n text < (n + 1) * 10 ^ length text
+value-below : (n : ℕ) (text : List ℕ) → Digits text → spelt n text < (n + 1) * 10 ^ length text
 value-below n [] _ = omega (arith, pow-zero 10)
 value-below n (b ∷ text) (d, more) =
     let w = value-below (10 * n + (b - 48)) text more in
     let m = mul-le-mul-right {m = 10 * n + (b - 48) + 1} {n = 10 * (n + 1)} (10 ^ length text) (omega (arith, d .low, d .high)) in
     omega (arith, ap (λ (p : ℕ). (n + 1) * p) (pow-succ' 10 (length text)))
 
-pub value-turn : (text : List ℕ) (i n : ℕ) → n ≡ value 0 (take i text) → i < length text → 10 * n + (getD text i 0 - 48) ≡ value 0 (take (i + 1) text)
-value-turn text i n e h = sym (ap (value 0) (take-next text i h) ∙ value-then 0 (take i text) (getD text i 0) ∙ ap (λ (v : ℕ). 10 * v + (getD text i 0 - 48)) (sym e))
+pub value-turn : (text : List ℕ) (i n : ℕ) → n ≡ spelt 0 (take i text) → i < length text → 10 * n + (getD text i 0 - 48) ≡ spelt 0 (take (i + 1) text)
+value-turn text i n e h = sym (ap (spelt 0) (take-next text i h) ∙ value-then 0 (take i text) (getD text i 0) ∙ ap (λ (v : ℕ). 10 * v + (getD text i 0 - 48)) (sym e))
 
-pub value-small : (text : List ℕ) (i n : ℕ) → Digits text → i < length text → length text ≤ 5 → n ≡ value 0 (take i text) → n < 10000
+pub value-small : (text : List ℕ) (i n : ℕ) → Digits text → i < length text → length text ≤ 5 → n ≡ spelt 0 (take i text) → n < 10000
 value-small text i n d h l e =
     let w = value-below 0 (take i text) (digits-take text i d) in
     let p = pow-le-pow-right {n = 10} (omega arith) {i = length (take i text)} {j = 4} (omega (arith, length-take-le i text (omega arith))) in
     omega (arith, e)
 
-pub value-end : (text : List ℕ) (i n : ℕ) → n ≡ value 0 (take i text) → length text ≤ i → n ≡ value 0 text
-value-end text i n e h = e ∙ ap (value 0) (take-all i text h)
+pub value-end : (text : List ℕ) (i n : ℕ) → n ≡ spelt 0 (take i text) → length text ≤ i → n ≡ spelt 0 text
+value-end text i n e h = e ∙ ap (spelt 0) (take-all i text h)

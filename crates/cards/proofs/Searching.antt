@@ -8,8 +8,8 @@ use native.Mathlib.Decide.{ℕ-discrete}
 use native.Mathlib.Omega.{arith}
 use lib.ListN.{length, getD, take, drop, take-append-drop, drop-of-length-le, length-drop}
 use lib.Seq.{drop-cons, length-take-le}
-use Rattle.cards.specs.Texts.{space, Digits, value}
-use Rattle.cards.specs.Fronts.{Stops, Run, Front, Search, Anything, Spaced, Nothing}
+use Rattle.cards.specs.Texts.{space, Digits, spelt}
+use Rattle.cards.specs.Fronts.{Stops, Run, Front, Search, Anything, Spaced, NoMore}
 use Rattle.cards.proofs.Digiting.{no-digit-low}
 
 -- digits end in one place
@@ -26,7 +26,7 @@ digits-one (c ∷ a) (d ∷ b) {x} {y} (_, da) (_, db) sx sy e =
 pub front-one : {text : List ℕ} {n m : ℕ} {rest other : List ℕ} → Front text n rest → Front text m other → (n ≡ m) × (rest ≡ other)
 front-one p q =
     let e = digits-one (p .front) (q .front) (p .number .digits) (q .number .digits) (p .stops) (q .stops) (sym (p .split) ∙ q .split) in
-    (p .number .stands-for ∙ ap (value 0) (e .0) ∙ sym (q .number .stands-for), e .1)
+    (p .number .stands-for ∙ ap (spelt 0) (e .0) ∙ sym (q .number .stands-for), e .1)
 
 pub space-stops : (more : List ℕ) → Stops (space ∷ more)
 space-stops more = no-digit-low (omega arith)
@@ -40,7 +40,7 @@ no-number {text} {end} r few m other f =
     let l : length (f .front) ≡ end = ap length (e .0) ∙ length-take-le end text (r .within) in
     few (omega (arith, f .number .some)) (omega (arith, f .number .few))
 
-pub run-front : {text : List ℕ} {end n : ℕ} → Run text end → end ≢ 0 → end ≤ 5 → n ≡ value 0 (take end text) → Front text n (drop end text)
+pub run-front : {text : List ℕ} {end n : ℕ} → Run text end → end ≢ 0 → end ≤ 5 → n ≡ spelt 0 (take end text) → Front text n (drop end text)
 run-front {text} {end} {n} r some few e =
     let l = length-take-le end text (r .within) in
     record {
@@ -76,7 +76,7 @@ pub other-not-spaced : (text : List ℕ) (end : ℕ) → end < length text → g
 other-not-spaced text end h ne (more, s) =
     let z : getD text end 0 ∷ drop (suc end) text ≡ space ∷ more = sym (drop-cons text end 0 h) ∙ s in ne cc
 
-pub more-not-ended : (text : List ℕ) (end : ℕ) → end < length text → ¬ Nothing (drop end text)
+pub more-not-ended : (text : List ℕ) (end : ℕ) → end < length text → ¬ NoMore (drop end text)
 more-not-ended text end h e = let z = ap length e in omega (arith, length-drop end text)
 
 -- the rest is a space and what comes after it
@@ -94,20 +94,20 @@ pub spaced-found : {text rest : List ℕ} {past n : ℕ} → Search Spaced text 
     → Front text n (space ∷ rest)
 spaced-found s ne e = front-as (ap (λ (l : List ℕ). space ∷ l) (sym e)) (s .found ne .0)
 
-pub whole-found : {text : List ℕ} {past n : ℕ} → Search Anything text past n (drop past text) → past ≡ length text → Search Nothing text past n []
+pub whole-found : {text : List ℕ} {past n : ℕ} → Search Anything text past n (drop past text) → past ≡ length text → Search NoMore text past n []
 whole-found {text} {past} {n} s e = pick (ℕ-discrete past 0)
   where
     ended : drop past text ≡ []
     ended = drop-of-length-le text {i = past} (omega arith)
 
-    pick : Dec (past ≡ 0) → Search Nothing text past n []
-    pick (yes z) = search-none past z (none-such Nothing s z)
+    pick : Dec (past ≡ 0) → Search NoMore text past n []
+    pick (yes z) = search-none past z (none-such NoMore s z)
     pick (no z) = search-found z (s .within) (front-as ended (s .found z .0)) refl
 
 pub whole-none : {text : List ℕ} {past n : ℕ} → Search Anything text past n (drop past text) → past ≢ length text
-    → (m : ℕ) (other : List ℕ) → Nothing other → ¬ Front text m other
+    → (m : ℕ) (other : List ℕ) → NoMore other → ¬ Front text m other
 whole-none {text} {past} {n} s ne = pick (ℕ-discrete past 0)
   where
-    pick : Dec (past ≡ 0) → (m : ℕ) (other : List ℕ) → Nothing other → ¬ Front text m other
-    pick (yes z) = none-such Nothing s z
-    pick (no z) = other-rest Nothing s z (more-not-ended text past (omega (arith, s .within)))
+    pick : Dec (past ≡ 0) → (m : ℕ) (other : List ℕ) → NoMore other → ¬ Front text m other
+    pick (yes z) = none-such NoMore s z
+    pick (no z) = other-rest NoMore s z (more-not-ended text past (omega (arith, s .within)))

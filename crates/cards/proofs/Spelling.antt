@@ -7,7 +7,7 @@ use native.Mathlib.Nat.{pow-zero, pow-suc}
 use native.Mathlib.Decide.{decLt}
 use native.Mathlib.Omega.{arith}
 use lib.ListN.{length, getD, length-append, List·getD-append}
-use Rattle.cards.specs.Texts.{Digits, value, Number, last-digit, decimals, decimal}
+use Rattle.cards.specs.Texts.{Digits, spelt, Number, last-digit, decimals, decimal}
 use Rattle.cards.proofs.Decimals.{decimals-one, decimals-more, decimals-longer, decimals-length}
 use Rattle.cards.proofs.Digiting.{digits-then, value-then}
 
@@ -15,7 +15,7 @@ use Rattle.cards.proofs.Digiting.{digits-then, value-then}
 record Spells (text : List ℕ) (n : ℕ) : Type 0 where
   digits : Digits text
   some : 1 ≤ length text
-  stands-for : value 0 text ≡ n
+  stands-for : spelt 0 text ≡ n
   leading : 1 ≤ n → getD text 0 0 ≢ 48
 
 spells-one : (n : ℕ) → n < 10 → Spells (last-digit n) n

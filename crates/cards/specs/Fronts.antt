@@ -38,5 +38,5 @@ Anything rest = Unit {0}
 abbrev pub Spaced : List ℕ → Type 0
 Spaced rest = (more : List ℕ) × (rest ≡ space ∷ more)
 
-abbrev pub Nothing : List ℕ → Type 0
-Nothing rest = rest ≡ []
+abbrev pub NoMore : List ℕ → Type 0
+NoMore rest = rest ≡ []

@@ -25,16 +25,16 @@ Digits [] = Unit {0}
 Digits (byte ∷ more) = Digit byte × Digits more
 
 -- What digits stand for after digits that stand for n.
-abbrev pub value : ℕ → List ℕ → ℕ
-value n [] = n
-value n (byte ∷ more) = value (10 * n + (byte - 48)) more
+abbrev pub spelt : ℕ → List ℕ → ℕ
+spelt n [] = n
+spelt n (byte ∷ more) = spelt (10 * n + (byte - 48)) more
 
 -- The text is 1 to 5 digits that stand for n.
 pub record Number (text : List ℕ) (n : ℕ) : Type 0 where
   pub digits : Digits text
   pub some : 1 ≤ length text
   pub few : length text ≤ 5
-  pub stands-for : n ≡ value 0 text
+  pub stands-for : n ≡ spelt 0 text
 
 -- The line, without its newline, is three numbers with one space between them.
 pub record Reads (line : List ℕ) (k f1 f2 : ℕ) : Type 0 where

@@ -4,9 +4,8 @@ ghost use mathlib.Core.List.{_∷_, []};
 ghost use Prim.Native.Nat.{_≤_};
 ghost use lib.ListN.{length, drop};
 ghost use Rattle.numbers.specs.Divisors.{Decides};
-ghost use Rattle.cards.specs.Texts.{space, Digit, Digits};
-ghost use Rattle.cards.specs.Texts.{value as Texts·value};
-ghost use Rattle.cards.specs.Fronts.{Run, Search, Anything, Spaced, Nothing};
+ghost use Rattle.cards.specs.Texts.{space, Digit, Digits, spelt};
+ghost use Rattle.cards.specs.Fronts.{Run, Search, Anything, Spaced, NoMore};
 ghost use Rattle.cards.specs.Reading.{nothing-read, ReadAs};
 
 const MOST_DIGITS: usize = 5;
@@ -39,7 +38,7 @@ fn run(text: &[u8]) -> usize
 
 fn value(digits: &[u8]) -> u32
     requires { ⌜ Digits (now digits) × (length (now digits) ≤ 5) ⌝ }
-    ensures { λ n. ⌜ n ≡ Texts·value 0 (now (digits .entry)) ⌝ }
+    ensures { λ n. ⌜ n ≡ spelt 0 (now (digits .entry)) ⌝ }
 {
     let mut n: u32 = 0;
     let mut i = 0;
@@ -101,7 +100,7 @@ fn spaced(text: &[u8]) -> Found
 
 // A number that is the whole text.
 fn whole(text: &[u8]) -> Found
-    ensures { λ r. ⌜ Search Nothing (now (text .entry)) (r .past) (r .n) [] ⌝ }
+    ensures { λ r. ⌜ Search NoMore (now (text .entry)) (r .past) (r .n) [] ⌝ }
 {
     let found = number(text);
     if found.past == text.len() {

@@ -3,7 +3,7 @@ use mathlib.Core.Path.{_≡_}
 use Prim.Native.Nat.{_-_, _≤_, _<_}
 use native.Mathlib.Omega.{arith}
 use lib.ListN.{length, take}
-use Rattle.cards.specs.Texts.{value}
+use Rattle.cards.specs.Texts.{spelt}
 use Rattle.cards.proofs.Digiting.{digits-at, value-small, value-turn, value-end}
 use Rattle.cards.proofs.reading.value.Reads as reads
 use Rattle.cards.proofs.reading.value.Lts as lts
@@ -12,7 +12,7 @@ use Rattle.cards.proofs.reading.value.Statement.{statement}
 use Rattle.cards.proofs.reading.value.Tie as tie
 
 abbrev Inv-loop : tie.InvT-loop
-Inv-loop digits n₀ i₀ n i = (i ≤ length digits) × (n ≡ value 0 (take i digits))
+Inv-loop digits n₀ i₀ n i = (i ≤ length digits) × (n ≡ spelt 0 (take i digits))
 
 abbrev μ-loop : tie.MeasureT-loop
 μ-loop digits n₀ i₀ n i = length digits - i
