@@ -70,18 +70,15 @@ VALUE(plain_spread, plain_spread(r->k, r->f1, r->f2))
 static void drive_our_inverse(const struct row *r) { answer = qpp_inverse(r->k, r->f1, r->f2); }
 static void drive_plain_inverse(const struct row *r) { answer = plain_inverse(r->k, r->f1, r->f2); }
 
-#define LIST(NAME, CALL)                                      \
-    static void drive_##NAME(const struct row *r) {           \
-        answer.number = CALL(r->k, r->f1, r->f2, list, 8192); \
-        answer.degree = list[r->k - 1];                       \
-    }
+#define LIST(NAME, CALL) \
+    static void drive_##NAME(const struct row *r) { answer.number = CALL(r->k, r->f1, r->f2, list, 8192); }
 LIST(our_addresses, qpp_addresses)
 LIST(plain_addresses, plain_addresses)
 
-#define FORM(NAME, CALL)                                                            \
-    static void drive_##NAME(const struct row *r) {                                 \
-        struct qpp_arp v = CALL(r->k, r->f1, r->f2, list, 8192);                    \
-        answer.number = v.number, answer.degree = v.q, answer.a[0] = list[v.q - 1]; \
+#define FORM(NAME, CALL)                                                  \
+    static void drive_##NAME(const struct row *r) {                       \
+        struct qpp_arp v = CALL(r->k, r->f1, r->f2, list, 8192);          \
+        answer.number = v.number, answer.degree = v.q, answer.a[0] = v.p; \
     }
 FORM(our_arp, qpp_arp)
 FORM(plain_arp, plain_arp)
@@ -142,6 +139,7 @@ static void prepare(const struct row *r) {
         words[i] = (int16_t)(i * 12345);
     }
     memset(scratch, 0xaa, sizeof room.scratch);
+    memset(list, 0, sizeof room.list);
     memset(&answer, 0, sizeof answer);
     plain_addresses(r->k, r->f1, r->f2, table, 8192);
 }
@@ -150,11 +148,13 @@ static void prepare(const struct row *r) {
 static void compare(const struct row *r) {
     static uint8_t b[8192];
     static int16_t w[8192];
+    static uint16_t l[8192];
     prepare(r);
     r->ours(r);
     struct qpp_inverse a = answer;
     memcpy(b, bytes, sizeof b);
     memcpy(w, words, sizeof w);
+    memcpy(l, list, sizeof l);
     prepare(r);
     r->theirs(r);
     bool moved = strcmp(r->against, "table, out of place") == 0;
@@ -162,7 +162,8 @@ static void compare(const struct row *r) {
         memcpy(bytes, bytes_to, r->k);
     if (moved && strstr(r->call, "i16"))
         memcpy(words, words_to, 2 * r->k);
-    if (memcmp(&a, &answer, sizeof a) || memcmp(b, bytes, sizeof b) || memcmp(w, words, sizeof w)) {
+    if (memcmp(&a, &answer, sizeof a) || memcmp(b, bytes, sizeof b) || memcmp(w, words, sizeof w) ||
+        memcmp(l, list, sizeof l)) {
         fprintf(stderr, "%s at %u: the two sides differ\n", r->call, r->k);
         exit(1);
     }

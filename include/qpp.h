@@ -90,19 +90,19 @@ uint32_t qpp_addresses(uint32_t k, uint32_t f1, uint32_t f2, uint16_t *list, siz
 
 /*
  * Moving a block of n symbols in place. The scratch has m bytes and may hold anything; afterwards its first K/8 bytes, rounded up,
- * are zero and the rest stays. Refusals 1, 2, 3, 4, 5.
+ * are zero and the rest stays.
  */
 
-/* Place i comes to hold the byte that stood at f(i). */
+/* Place i comes to hold the byte that stood at f(i). Refusals 1, 2, 3, 4, 5. */
 uint32_t qpp_interleave_u8(uint32_t k, uint32_t f1, uint32_t f2, uint8_t *block, size_t n, uint8_t *scratch, size_t m);
 
-/* Place f(i) comes to hold the byte that stood at i. */
+/* Place f(i) comes to hold the byte that stood at i. Refusals 1, 2, 3, 4, 5. */
 uint32_t qpp_deinterleave_u8(uint32_t k, uint32_t f1, uint32_t f2, uint8_t *block, size_t n, uint8_t *scratch, size_t m);
 
-/* Place i comes to hold the signed 16-bit value that stood at f(i). */
+/* Place i comes to hold the signed 16-bit value that stood at f(i). Refusals 1, 2, 3, 4, 5. */
 uint32_t qpp_interleave_i16(uint32_t k, uint32_t f1, uint32_t f2, int16_t *block, size_t n, uint8_t *scratch, size_t m);
 
-/* Place f(i) comes to hold the signed 16-bit value that stood at i. */
+/* Place f(i) comes to hold the signed 16-bit value that stood at i. Refusals 1, 2, 3, 4, 5. */
 uint32_t qpp_deinterleave_i16(uint32_t k, uint32_t f1, uint32_t f2, int16_t *block, size_t n, uint8_t *scratch, size_t m);
 
 #ifdef __cplusplus
