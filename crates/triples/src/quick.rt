@@ -14,7 +14,7 @@ pub struct Scaled {
     pub f2: u64,
 }
 
-// SCALE/K is no whole number, so that one of its two neighbours must do. What it is off, times f1·x + f2·x², must make the place
+// SCALE/K is seldom a whole number, so that one of its two neighbours must do. What it is off, times f1·x + f2·x², must make the place
 // too high by less than one, and never too low. Above SCALE/K that holds for an f2 of at most half K. A larger f2 is counted down
 // from K, and f1 with it: SCALE - (K - f1)·below is f1·below + rest.
 pub fn prepare(t: Triple) -> Scaled
