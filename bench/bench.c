@@ -144,17 +144,19 @@ static void prepare(const struct row *r) {
     plain_addresses(r->k, r->f1, r->f2, table, 8192);
 }
 
-/* Both sides answer the same, or the row says nothing. A table's result is elsewhere, and is left alone. */
+/* Both sides answer the same, or the row says nothing. A table's result is elsewhere, and is fetched first; it uses no scratch. */
 static void compare(const struct row *r) {
     static uint8_t b[8192];
     static int16_t w[8192];
     static uint16_t l[8192];
+    static uint8_t s[1024];
     prepare(r);
     r->ours(r);
     struct qpp_inverse a = answer;
     memcpy(b, bytes, sizeof b);
     memcpy(w, words, sizeof w);
     memcpy(l, list, sizeof l);
+    memcpy(s, scratch, sizeof s);
     prepare(r);
     r->theirs(r);
     bool moved = strcmp(r->against, "table, out of place") == 0;
@@ -163,7 +165,7 @@ static void compare(const struct row *r) {
     if (moved && strstr(r->call, "i16"))
         memcpy(words, words_to, 2 * r->k);
     if (memcmp(&a, &answer, sizeof a) || memcmp(b, bytes, sizeof b) || memcmp(w, words, sizeof w) ||
-        memcmp(l, list, sizeof l)) {
+        memcmp(l, list, sizeof l) || (!moved && memcmp(s, scratch, sizeof s))) {
         fprintf(stderr, "%s at %u: the two sides differ\n", r->call, r->k);
         exit(1);
     }

@@ -96,7 +96,9 @@ struct qpp_value plain_reciprocal(uint32_t k, uint32_t f1, uint32_t f2) {
 }
 
 static inline void fill(uint32_t k, uint32_t f1, uint32_t f2, uint16_t *list, uint32_t n) {
-    uint32_t value = 0, rise = (f1 + f2) % k, twice = 2 * f2 % k;
+    uint32_t value = 0, rise = f1 + f2, twice = 2 * f2;
+    rise -= rise < k ? 0 : k;
+    twice -= twice < k ? 0 : k;
     for (uint32_t x = 0; x < n; x++) {
         list[x] = (uint16_t)value;
         value += rise;
@@ -122,7 +124,7 @@ struct qpp_arp plain_arp(uint32_t k, uint32_t f1, uint32_t f2, uint16_t *list, s
         return (struct qpp_arp){number, 0, 0};
     struct pair odd = odd_form(k, f1, f2);
     uint32_t q = k / gcd(k, 2 * odd.f2);
-    if ((uint64_t)odd.f2 * q * q % k != 0)
+    if (q % 2 != 0 && odd.f2 * q % k != 0)
         q *= 2;
     if (n < q)
         return (struct qpp_arp){QPP_NO_LIST, 0, 0};
@@ -231,10 +233,14 @@ static inline size_t next_free(const uint8_t *s, size_t i, size_t n) {
     return i;
 }
 
-/* The same, passing over a byte that is full. */
+/* The same, byte by byte. */
 static inline size_t quick_next_free(const uint8_t *s, size_t i, size_t n) {
-    while (i < n && marked(s, i))
-        i = s[i / 8] == 255 ? i / 8 * 8 + 8 : i + 1;
+    while (i < n) {
+        unsigned free = (unsigned)(uint8_t)~s[i / 8] >> i % 8;
+        if (free != 0)
+            return i + (size_t)__builtin_ctz(free);
+        i = i / 8 * 8 + 8;
+    }
     return i;
 }
 

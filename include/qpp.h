@@ -2,8 +2,13 @@
  * The interleaver f(x) = (f1*x + f2*x*x) mod K of a turbo code, K from 2 to 8192.
  *
  * Every call takes any numbers and answers or refuses by a number. A refused call changes no byte of what it was
- * lent and hands back zeros beside its number. What C must keep: a length is that of its buffer, and the block and
- * the scratch of one call do not overlap. No call keeps a pointer.
+ * lent and hands back zeros beside its number. No call keeps a pointer.
+ *
+ * What C must keep: n counts the entries or symbols of a buffer, and m the bytes of a scratch; no pointer is NULL; the
+ * block and the scratch of one call do not overlap. qpp_spread takes 16 KiB of stack, every other call less than half
+ * a kilobyte.
+ *
+ * The odd form of a triple: where K and f1 are even, K/2 is added to f1 and to f2 modulo K. f stays the same.
  */
 #ifndef QPP_H
 #define QPP_H
@@ -70,13 +75,22 @@ struct qpp_value qpp_address(uint32_t k, uint32_t f1, uint32_t f2, uint32_t x);
 /* The r below K with r*f1 mod K = 1, f1 of the odd form. Refusals 1, 2, 3. */
 struct qpp_value qpp_reciprocal(uint32_t k, uint32_t f1, uint32_t f2);
 
-/* The largest s from 1 to K such that positions less than s apart have addresses at least s apart. Refusals 1, 2, 3. */
+/*
+ * The largest s from 1 to K such that any two different positions less than s apart have addresses at least s apart.
+ * Refusals 1, 2, 3.
+ */
 struct qpp_value qpp_spread(uint32_t k, uint32_t f1, uint32_t f2);
 
-/* The polynomial of least degree that sends every address back, each ak below K/gcd(K, k!). Refusals 1, 2, 3. */
+/*
+ * The polynomial without a constant, of least degree, that sends every address back, each ak below K/gcd(K, k!).
+ * Refusals 1, 2, 3.
+ */
 struct qpp_inverse qpp_inverse(uint32_t k, uint32_t f1, uint32_t f2);
 
-/* The ARP form: P, Q, and S[0] to S[Q-1] into the list; later entries stay. Refusals 1, 2, 3, 7. */
+/*
+ * The ARP form, f(i) = (P*i + S[i mod Q]) mod K, with P the f1 of the odd form: P, Q, and S[0] to S[Q-1] into the list;
+ * later entries stay. Refusals 1, 2, 3, 7.
+ */
 struct qpp_arp qpp_arp(uint32_t k, uint32_t f1, uint32_t f2, uint16_t *list, size_t n);
 
 /* A walker at position 0. Refusals 1, 2, 3. */
@@ -89,8 +103,8 @@ struct qpp_step qpp_walker_step(struct qpp_walker w);
 uint32_t qpp_addresses(uint32_t k, uint32_t f1, uint32_t f2, uint16_t *list, size_t n);
 
 /*
- * Moving a block of n symbols in place. The scratch has m bytes and may hold anything; afterwards its first K/8 bytes, rounded up,
- * are zero and the rest stays.
+ * Moving a block of n symbols in place. The scratch may hold anything; afterwards its first K/8 bytes, rounded up, are
+ * zero and the rest stays.
  */
 
 /* Place i comes to hold the byte that stood at f(i). Refusals 1, 2, 3, 4, 5. */

@@ -176,6 +176,14 @@ static void walkers(void) {
         struct qpp_step s = qpp_walker_step(w);
         CHECK(s.number == refused[i][4] && s.address == 0 && same_walker(s.walker, (struct qpp_walker){0, 0, 0, 0}));
     }
+    static const struct qpp_walker served[] = {{2, 1, 1, 1}, {9, 8, 8, 8}, {8192, 1, 2, 8191}, {8192, 8191, 8191, 8190}};
+    for (size_t i = 0; i < sizeof served / sizeof *served; i++) {
+        w = served[i];
+        t = (struct triple){w.k, w.f1, w.f2};
+        struct qpp_walker next = {w.k, w.f1, w.f2, (w.at + 1) % w.k};
+        struct qpp_step s = qpp_walker_step(w);
+        CHECK(s.number == 0 && s.address == model_f(t, w.at) && same_walker(s.walker, next));
+    }
     t = (struct triple){3, 1, 1};
     for (uint32_t x = 0; x < 3; x++) /* addresses 0, 2, 0 */
         CHECK(qpp_walker_step((struct qpp_walker){3, 1, 1, x}).address == (x == 1 ? 2 : 0));

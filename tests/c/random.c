@@ -50,7 +50,7 @@ static struct triple draw(void) {
     case 4:
         if (below(100))
             return likely(64 + below(200));
-        return likely(8193 - 1 - below(6000));
+        return likely(8192 - below(6000));
     case 5:
     case 6:
         return (struct triple){k, below(k), below(k)};
@@ -87,8 +87,8 @@ static void walking(struct triple t) {
     CHECK(memcmp(&step, &model, sizeof step) == 0);
 }
 
-/* The dear ones; the model's spread is slow. */
-static void seldom(struct triple t) {
+/* The model's spread is slow, so that long shuffles are seldom asked for theirs. */
+static void inverse_and_spread(struct triple t) {
     struct qpp_inverse inverse = qpp_inverse(t.k, t.f1, t.f2);
     CHECK(model_fits_inverse(t, &inverse));
     if (model_accept(t) != 0 || t.k <= 64 || below(64) == 0) {
@@ -117,7 +117,6 @@ void test_random(void) {
         numbers(t);
         walking(t);
         lending(t);
-        if (below(16) == 0)
-            seldom(t);
+        inverse_and_spread(t);
     }
 }

@@ -1,4 +1,4 @@
-// The almost regular form of a shuffle. The triple is in its odd form.
+// The almost regular form of a shuffle. Callers hand in the odd form of its triple; nothing here depends on that.
 use triples::Triple;
 ghost use Prim.Native.Nat.{_≤_};
 ghost use lib.ListN.{length};

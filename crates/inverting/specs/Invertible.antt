@@ -7,7 +7,6 @@ use Rattle.numbers.specs.Congruence.{Reciprocal}
 pub record Invertible (k f1 f2 r : ℕ) : Type 0 where
   pub low : 1 < k
   pub high : k ≤ 8192
-  pub first : f1 < k
   pub second : f2 < k
   pub reciprocal : Reciprocal k f1 r
   pub absorbed : k ∣ f2 ^ 13

@@ -27,7 +27,8 @@ fn without_constant(p: &[u32; 14]) -> [u32; 13]
     a
 }
 
-// The inverse of f: the series, brought inside the limits. It is made of f2 and of the reciprocal r of f1.
+// The inverse of f: the series, brought inside the limits. It is made of f2 and of the reciprocal r of f1; f1 itself is there for
+// the contract alone.
 pub fn inverse(k: u32, f1: u32, f2: u32, r: u32) -> Polynomial
     requires { ⌜ Invertible k f1 f2 r ⌝ }
     ensures { λ p. ⌜ Inverted k (f (triple k f1 f2)) (p .degree) (p .a) ⌝ }

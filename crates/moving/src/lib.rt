@@ -1,4 +1,5 @@
-// Blocks moved in place by the map of a triple. A mover asks the map for a place, and knows nothing else of it.
+// Blocks moved in place by the map of a triple. A mover has the coefficients scaled once, asks for a place at each step, and knows
+// nothing else of the map.
 pub mod bytes; // blocks of unsigned bytes
 pub mod words; // blocks of signed 16-bit values
 
@@ -11,7 +12,7 @@ use permuting::marks;
 use triples::Scaled;
 use triples::Triple;
 
-// The bytes that hold a mark for each place, and no byte more: the rest of the scratch is the caller's.
+// Clears the bytes that hold a mark for each place, and no byte more: the rest of the scratch is the caller's.
 pub fn wipe(t: Triple, scratch: &mut [u8])
     requires { ⌜ InRange t ⌝ }
     requires { ⌜ (t .k + 7) / 8 ≤ length (now scratch) ⌝ }
@@ -21,7 +22,7 @@ pub fn wipe(t: Triple, scratch: &mut [u8])
     marks::clear(scratch, (k + 7) / 8);
 }
 
-// A place is marked as the walk leaves it, so that no later cycle begins there.
+// Marks the place i and answers where f leads from it. It is marked as the walk leaves it, so that no later cycle begins there.
 pub fn step(t: Triple, scaled: Scaled, i: usize, scratch: &mut [u8]) -> usize
     requires { ⌜ Prepared t scaled ⌝ }
     requires { ⌜ i < t .k ⌝ }

@@ -39,8 +39,9 @@ fn add_rising(rows: &[u32; 78], k: u32, q: &mut [u32; 14], t: u32, n: usize)
 }
 
 // q brought inside the limits, from the top place down: the limit times the rising product is 0 modulo k everywhere, so that
-// multiples of it may be taken away. A place is brought below k when its turn comes and not before: what is added to it until
-// then, twelve products of 26 bits at most, leaves room in 32 bits.
+// multiples of it may be taken away; to take c times it away is to add k - c times it. A place is brought below k when its turn comes
+// and not before: what is added to it until then, twelve products of 26 bits at most, leaves room in 32 bits. The constant, whose
+// limit is k, has no turn.
 pub fn reduce(k: u32, top: usize, q: &mut [u32; 14])
     requires { ⌜ (1 < k) × (k ≤ 8192) × (top ≤ 13) × (getD (now q) 0 0 < k) × AtMost 2147483648 (now q) × Ends top (now q) × (length (now q) ≡ 14) ⌝ }
     ensures { λ _. ⌜ Reduced k (wholes (now (q .entry))) (wholes (now (q .exit))) × Ends top (now (q .exit)) × (length (now (q .exit)) ≡ 14) ⌝ }

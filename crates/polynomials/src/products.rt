@@ -86,7 +86,7 @@ const ROWS: [u32; 78] = [
     78,
 ];
 
-// The table.
+// The table, to be taken once and lent: named inside a callee, a constant is laid out anew at each call.
 pub fn rows() -> [u32; 78]
     ensures { λ r. ⌜ Rows r ⌝ }
 {

@@ -45,14 +45,14 @@ pub record Quotient (k m r : ℕ) : Type 0 where
 pub quotient : (k : ℕ) → 0 < k → k ≤ 8192 → Quotient k (scale / k) (scale % k)
 quotient k pos high = record { split = mod-add-div' scale k; less = mod-lt scale pos; high = high; large = large k pos high }
 
--- the coefficients p and q serve for a and b at x: by w their line is too high
+-- the coefficients p and q serve for a and b at x: w is what their sum, times k, is too high
 scaled-place : (k a b p q x w : ℕ) → 0 < k → (p * x + q * (x * x)) * k ≡ (a * x + b * (x * x)) * scale + w → w < scale
     → (p + q * x) % scale * x % scale * k / scale ≡ (a * x + b * (x * x)) % k
 scaled-place k a b p q x w pos near small =
     ap (λ (n : ℕ). n * k / scale) (cong-same (cong-mul (cong-sym (cong-mod scale (p + q * x))) (cong-eq {x = x} refl) ⨾ cong-eq (omega arith)))
     ∙ fraction scale k (a * x + b * (x * x)) (p * x + q * (x * x)) w pos near small
 
--- by less than the scale, where the second coefficient is at most half of the greatest length
+-- w is less than the scale where the second coefficient is at most half of the greatest length
 off-small : (e c d x : ℕ) → e ≤ 8192 → c ≤ 8192 → d ≤ 4096 → x ≤ 8191 → e * (c * x + d * (x * x)) < scale
 off-small e c d x he hc hd hx =
     let line : c * x ≤ 8192 * 8191 = mul-le-mul {n₁ = c} {m₁ = x} hc hx in

@@ -5,7 +5,8 @@ ghost use Prim.Native.Nat.{_<_};
 ghost use Rattle.triples.specs.Shuffles.{f, InRange};
 ghost use Rattle.triples.specs.Quick.{Prepared};
 
-// 2 to the 51st: with it no product below leaves 64 bits, and a remainder or a quotient by it is a mask or a shift.
+// 2 to the 51st: with it no product below leaves 64 bits, and a remainder or a quotient by it is a mask or a shift. Half of it would
+// not do: the error below would reach a whole place.
 const SCALE: u64 = 2251799813685248;
 
 // The coefficients in parts of which SCALE make K.
@@ -14,9 +15,10 @@ pub struct Scaled {
     pub f2: u64,
 }
 
-// SCALE/K is seldom a whole number, so that one of its two neighbours must do. What it is off, times f1·x + f2·x², must make the place
-// too high by less than one, and never too low. Above SCALE/K that holds for an f2 of at most half K. A larger f2 is counted down
-// from K, and f1 with it: SCALE - (K - f1)·below is f1·below + rest.
+// SCALE/K is seldom whole, so that one of the two whole numbers beside it stands for it. Its error, times f1·x + f2·x², must make the
+// place too high by less than one, and never too low. The number above does so where f2 is at most half of K. Otherwise both
+// coefficients are counted down from K with the number below: too little is taken away, so that the place is again too high, and
+// K - f2 is less than half of K. SCALE is K·below + rest, so that SCALE - (K - f1)·below is f1·below + rest.
 pub fn prepare(t: Triple) -> Scaled
     requires { ⌜ InRange t ⌝ }
     ensures { λ r. ⌜ Prepared t r ⌝ }
@@ -39,7 +41,7 @@ pub fn prepare(t: Triple) -> Scaled
     }
 }
 
-// f(x): of f1·x + f2·x², in parts of which SCALE make K, what is left of the multiples of K.
+// f(x): f1·x + f2·x² in parts of which SCALE make K, with the multiples of K taken away, and of what is left the whole places.
 pub fn quick_place(t: Triple, scaled: Scaled, x: usize) -> usize
     requires { ⌜ Prepared t scaled × (x < t .k) ⌝ }
     ensures { λ r. ⌜ (r ≡ f t x) × (r < t .k) ⌝ }

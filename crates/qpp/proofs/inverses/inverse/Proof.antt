@@ -33,7 +33,6 @@ inverse-requires c κs =
     record {
       low = s .range .low;
       high = s .range .high;
-      first = u .first;
       second = u .second;
       reciprocal = c .reciprocal .ensures;
       absorbed = absorbed-power 13 _ _ (omega (arith, s .range .low)) (s .range .high) (u .absorbed);
