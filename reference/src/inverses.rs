@@ -4,7 +4,7 @@ use crate::line::Line;
 use crate::shuffle::{inverse, Inverse, Triple};
 use std::io::{self, Write};
 
-/// The 188 rows of the standard.
+/// The 188 rows of 3GPP TS 36.212, clause 5.1.3.
 pub fn standard_rows() -> Vec<Triple> {
     let row = |text: &str| {
         let numbers: Vec<u32> = text.split(' ').map(|word| word.parse().unwrap()).collect();
