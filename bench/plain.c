@@ -233,14 +233,13 @@ static inline size_t next_free(const uint8_t *s, size_t i, size_t n) {
     return i;
 }
 
-/* The same, byte by byte. */
+/*
+ * The same, passing over a byte that is full. To count the zeros of a byte takes fewer instructions and more time: the
+ * next cycle must wait for the count, where a test of a bit is foreseen.
+ */
 static inline size_t quick_next_free(const uint8_t *s, size_t i, size_t n) {
-    while (i < n) {
-        unsigned free = (unsigned)(uint8_t)~s[i / 8] >> i % 8;
-        if (free != 0)
-            return i + (size_t)__builtin_ctz(free);
-        i = i / 8 * 8 + 8;
-    }
+    while (i < n && marked(s, i))
+        i = s[i / 8] == 255 ? i / 8 * 8 + 8 : i + 1;
     return i;
 }
 

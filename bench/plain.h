@@ -16,8 +16,8 @@ uint32_t plain_loop(uint32_t k, uint32_t f1, uint32_t f2); /* the sum of all add
 uint32_t plain_addresses(uint32_t k, uint32_t f1, uint32_t f2, uint16_t *list, size_t n);
 
 /*
- * plain_: the cycles followed in place. quick_: the same with a multiplication in place of the division, and the marks
- * read byte by byte. table_: out of place, through a list of the addresses; it tests nothing.
+ * plain_: the cycles followed in place. quick_: the same with a multiplication in place of the division, and full bytes
+ * of marks passed over. table_: out of place, through a list of the addresses; it tests nothing.
  */
 #define MOVERS(TYPE, NAME)                                                                                      \
     uint32_t plain_interleave_##NAME(uint32_t k, uint32_t f1, uint32_t f2, TYPE *block, size_t n, uint8_t *s,   \
