@@ -5,12 +5,13 @@ use Prim.Native.Nat.{ℕ, zero, suc, _+_, _*_, _/_, _%_, _<_}
 use native.Mathlib.Nat.{mod-lt, mod-add-div', le-antisymm, pos-of-dvd-of-pos}
 use native.Mathlib.Omega.{arith}
 use lib.ListN.{getD}
+use Rattle.numbers.specs.Divisors.{Coprime}
 use Rattle.numbers.proofs.Congruences.{cong-eq, cong-sym, cong-same, cong-add, cong-mod, _⨾_}
 use Rattle.triples.specs.declared.Triple.{Triple}
 use Rattle.triples.specs.Shuffles.{triple, f, Shuffle, Written, oddForm}
 use Rattle.triples.proofs.Rows.{written-one}
 use Rattle.triples.proofs.Rule.{OddUnit, odd-unit}
-use Rattle.arp.specs.Arp.{shift, Repeats, Period, Arp}
+use Rattle.arp.specs.Arp.{shift, Repeats, Period, ArpNumbers, Arp}
 
 -- the shifts are the addresses of the triple without its first coefficient
 pub without-first : (t : Triple) (j : ℕ) → f (triple (t .k) 0 (t .f2)) j ≡ shift t j
@@ -21,15 +22,19 @@ repeats-often t q r zero i = ap (λ (m : ℕ). shift t m) (omega arith)
 repeats-often t q r (suc n) i =
     ap (λ (m : ℕ). shift t m) {y = i + n * q + q} (omega arith) ∙ r (i + n * q) ∙ repeats-often t q r n i
 
-pub arp-form : {t o : Triple} {q : ℕ} {before after : List ℕ} → Shuffle t → o ≡ oddForm t → Period o q → Written (shift o) q before after
-    → Arp t (o .f1) q before after
-arp-form {t} {o} {q} {before} {after} s e period shifts =
+-- as the code takes them, from the odd form o
+pub arp-numbers : {t o : Triple} {p q : ℕ} → o ≡ oddForm t → p ≡ o .f1 → Period o q → ArpNumbers t p q
+arp-numbers {t} {o} {p} {q} e first period =
+    record { first = first ∙ ap (λ (w : Triple). w .f1) e; period = subst (λ (w : Triple). Period w q) e period }
+
+pub arp-form : {t o : Triple} {p q : ℕ} {before after : List ℕ} → Shuffle t → o ≡ oddForm t → p ≡ o .f1 → Period o q → Written (shift o) q before after
+    → Arp t p q before after
+arp-form {t} {o} {p} {q} {before} {after} s e first period shifts =
     record {
-      first = ap (λ (w : Triple). w .f1) e;
-      coprime = unit .coprime;
-      period = subst (λ (w : Triple). Period w q) e period;
+      numbers = arp-numbers e first period;
+      coprime = subst (λ (n : ℕ). Coprime n (t .k)) (sym first) (unit .coprime);
       shifts = subst (λ (w : Triple). Written (shift w) q before after) e shifts;
-      addresses = addresses;
+      addresses = λ i h. ap (λ (n : ℕ). (n * i + getD after (i % q) 0) % t .k) first ∙ addresses i h;
     }
   where
     unit : OddUnit t o
@@ -55,7 +60,10 @@ arp-form {t} {o} {q} {before} {after} s e period shifts =
 pub period-one : {t : Triple} {p q : ℕ} → Period t p → Period t q → p ≡ q
 period-one {t} {p} {q} a b = le-antisymm (a .least q (b .divides) (b .repeats)) (b .least p (a .divides) (a .repeats))
 
+pub arp-numbers-one : {t : Triple} {p q p′ q′ : ℕ} → ArpNumbers t p q → ArpNumbers t p′ q′ → (p ≡ p′) × (q ≡ q′)
+arp-numbers-one a b = (a .first ∙ sym (b .first), period-one (a .period) (b .period))
+
 pub arp-one : {t : Triple} {p q p′ q′ : ℕ} {before a b : List ℕ} → Arp t p q before a → Arp t p′ q′ before b → (p ≡ p′) × (q ≡ q′) × (a ≡ b)
 arp-one {t} {p} {q} {p′} {q′} {before} {a} {b} x y =
-    let same : q ≡ q′ = period-one (x .period) (y .period) in
-    (x .first ∙ sym (y .first), same, written-one (subst (λ (n : ℕ). Written (shift (oddForm t)) n before a) same (x .shifts)) (y .shifts))
+    let (first, same) = arp-numbers-one (x .numbers) (y .numbers) in
+    (first, same, written-one (subst (λ (n : ℕ). Written (shift (oddForm t)) n before a) same (x .shifts)) (y .shifts))

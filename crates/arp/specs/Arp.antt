@@ -21,11 +21,15 @@ pub record Period (t : Triple) (q : ℕ) : Type 0 where
   pub repeats : Repeats t q
   pub least : (p : ℕ) → p ∣ t .k → Repeats t p → q ≤ p
 
--- With f1 and f2 of the odd form: P is f1, Q the period, and the list holds S[0] to S[Q-1] and then what it held before;
--- P shares no factor with K; and position i goes to (P·i + S[i mod Q]) mod K.
-pub record Arp (t : Triple) (p q : ℕ) (before after : List ℕ) : Type 0 where
+-- P is f1 and Q the period, with f1 and f2 of the odd form.
+pub record ArpNumbers (t : Triple) (p q : ℕ) : Type 0 where
   pub first : p ≡ oddForm t .f1
-  pub coprime : Coprime p (t .k)
   pub period : Period (oddForm t) q
+
+-- The list holds S[0] to S[Q-1] and then what it held before; P shares no factor with K; and position i goes to
+-- (P·i + S[i mod Q]) mod K.
+pub record Arp (t : Triple) (p q : ℕ) (before after : List ℕ) : Type 0 where
+  pub numbers : ArpNumbers t p q
+  pub coprime : Coprime p (t .k)
   pub shifts : Written (shift (oddForm t)) q before after
   pub addresses : (i : ℕ) → i < t .k → (p * i + getD after (i % q) 0) % t .k ≡ f t i

@@ -4,11 +4,11 @@ use mathlib.Core.Logic.{_≢_}
 use mathlib.Core.List.{List, [], _∷_, _++_}
 use Prim.Native.Nat.{ℕ}
 use Rattle.triples.specs.declared.Triple.{Triple}
-use Rattle.triples.specs.Shuffles.{triple, f, oddForm}
+use Rattle.triples.specs.Shuffles.{triple, f}
 use Rattle.polynomials.specs.Inverses.{Inverted}
 use Rattle.polynomials.proofs.Answering.{inverted-one}
-use Rattle.arp.specs.Arp.{Period}
-use Rattle.arp.proofs.Shifting.{period-one}
+use Rattle.arp.specs.Arp.{ArpNumbers}
+use Rattle.arp.proofs.Shifting.{arp-numbers-one}
 use Rattle.spreading.specs.Spread.{Spread}
 use Rattle.spreading.proofs.Distances.{spread-one}
 use Rattle.qpp.specs.declared.shuffles.Value.{Value}
@@ -21,13 +21,12 @@ use Rattle.cards.specs.Cards.{unreadable-word, refused-word, ok-word, ro
 use Rattle.cards.proofs.Readings.{reads-one}
 
 -- from the calls
-pub facts-are : {t o : Triple} {s : Value} {i : InverseForm} (r : Facts) → Acceptance t 0 → InverseOf t i → r .degree ≡ i .degree → r .a ≡ i .a → o ≡ oddForm t → r .p ≡ o .f1 → Period o (r .q)
+pub facts-are : {t : Triple} {s : Value} {i : InverseForm} (r : Facts) → Acceptance t 0 → InverseOf t i → r .degree ≡ i .degree → r .a ≡ i .a → ArpNumbers t (r .p) (r .q)
     → SpreadOf t s → r .spread ≡ s .value → FactsOf t r
-facts-are {t} {o} {s} {i} r a inverse d c e p q w v =
+facts-are {t} {s} {i} r a inverse d c n w v =
     record {
       inverse = subst₂ (λ (D : ℕ) (l : List ℕ). Inverted (t .k) (f t) D l) (sym d) (sym c) (inverse .done (acceptance-one t (inverse .first) a));
-      first = p ∙ ap (λ (u : Triple). u .f1) e;
-      period = subst (λ (u : Triple). Period u (r .q)) e q;
+      numbers = n;
       spread = subst (λ (n : ℕ). Spread (f t) (t .k) n) (sym v) (w .done (acceptance-one t (w .first) a));
     }
 
@@ -54,8 +53,7 @@ module _ {line before after : List ℕ} {at end : ℕ} where
 facts-one : {t : Triple} {r s : Facts} → FactsOf t r → FactsOf t s → told r ≡ told s
 facts-one {t} {r} {s} x y =
     let i : (r .degree ≡ s .degree) × (r .a ≡ s .a) = inverted-one (x .inverse) (y .inverse) in
-    let p : r .p ≡ s .p = x .first ∙ sym (y .first) in
-    let q : r .q ≡ s .q = period-one (x .period) (y .period) in
+    let n : (r .p ≡ s .p) × (r .q ≡ s .q) = arp-numbers-one (x .numbers) (y .numbers) in
     let e : r .spread ≡ s .spread = spread-one (x .spread) (y .spread) in
     cc
 

@@ -5,9 +5,9 @@ use mathlib.Core.List.{List, [], _∷_, _++_}
 use Prim.Native.Nat.{ℕ}
 use lib.ListN.{take}
 use Rattle.triples.specs.declared.Triple.{Triple}
-use Rattle.triples.specs.Shuffles.{triple, f, oddForm}
+use Rattle.triples.specs.Shuffles.{triple, f}
 use Rattle.polynomials.specs.Inverses.{Inverted}
-use Rattle.arp.specs.Arp.{Period}
+use Rattle.arp.specs.Arp.{ArpNumbers}
 use Rattle.spreading.specs.Spread.{Spread}
 use Rattle.qpp.specs.Promises.{Acceptance}
 use Rattle.cards.specs.declared.composing.Facts.{Facts}
@@ -30,8 +30,7 @@ row k f1 f2 word numbers = decimal k ++ (fields (f1 ∷ f2 ∷ []) ++ (space ∷
 -- What the card of a shuffle tells of it: the inverse, P, Q and the spread.
 pub record FactsOf (t : Triple) (r : Facts) : Type 0 where
   pub inverse : Inverted (t .k) (f t) (r .degree) (r .a)
-  pub first : r .p ≡ oddForm t .f1
-  pub period : Period (oddForm t) (r .q)
+  pub numbers : ArpNumbers t (r .p) (r .q)
   pub spread : Spread (f t) (t .k) (r .spread)
 
 -- D, a1 to aD, P, Q and the spread.

@@ -27,15 +27,15 @@ fn facts_of(k: u32, f1: u32, f2: u32) -> Facts
     ensures { λ r. ⌜ FactsOf (triple k f1 f2) r ⌝ }
 {
     let odd = triples::odd_form(Triple { k, f1, f2 });
-    let q = arp::period(odd);
+    let found = arp::numbers_of(odd);
     let spread = qpp::spread(k, f1, f2);
     let inverse = qpp::inverse(k, f1, f2);
     let a = inverse.a;
     Facts {
         degree: inverse.degree,
         a,
-        p: odd.f1,
-        q,
+        p: found.p,
+        q: found.q,
         spread: spread.value,
     }
 }

@@ -30,7 +30,7 @@ deinterleaved π a b size e = record { size = size; holds = same-below (length a
 -- K is gcd(K, 2·f2), so that 1 is the first candidate; it fails, and its double is the period
 arp-8 : Arp (triple 8 1 4) 1 2 (0 ∷ 4 ∷ []) (0 ∷ 4 ∷ [])
 arp-8 =
-    arp-form (accepted (judged-as (triple 8 1 4) 0 tt) refl) refl
+    arp-form (accepted (judged-as (triple 8 1 4) 0 tt) refl) refl refl
     (period-double (triple 8 1 4) 8 1 (omega arith) (record { left = dvd-refl 8; right = dvd-refl 8; greatest = λ d p q. p }) refl (λ e. omega arith) (λ e. omega arith))
     (record { size = refl; entries = same-below 2 (λ j. getD (0 ∷ 4 ∷ []) j 0) (shift (triple 8 1 4)) tt; rest = λ j l. refl })
 

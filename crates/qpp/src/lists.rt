@@ -46,14 +46,14 @@ pub fn arp(k: u32, f1: u32, f2: u32, list: &mut [u16]) -> ArpForm
         return formless(number);
     }
     let odd = triples::odd_form(Triple { k, f1, f2 });
-    let q = arp::period(odd);
-    if list.len() < q as usize {
+    let found = arp::numbers_of(odd);
+    if list.len() < found.q as usize {
         return formless(NO_LIST);
     }
-    arp::shifts(odd, q, list);
+    arp::shifts(odd, found.q, list);
     ArpForm {
         number: DONE,
-        p: odd.f1,
-        q,
+        p: found.p,
+        q: found.q,
     }
 }

@@ -1,6 +1,7 @@
 -- `facts_of` meets its contract.
 use mathlib.Core.Path.{refl}
 use Rattle.triples.proofs.Forms.{in-form}
+use Rattle.arp.proofs.Shifting.{arp-numbers}
 use Rattle.qpp.proofs.Judging.{accepted}
 use Rattle.cards.proofs.Telling.{facts-are}
 use borrow.Author.Needs.{needs}
@@ -10,8 +11,8 @@ use Rattle.cards.proofs.composing.facts_of.Tie as tie
 odd-form-requires : tie.Need-odd-form-requires
 odd-form-requires c κs = accepted (c .pre) refl .range
 
-period-requires : tie.Need-period-requires
-period-requires c κs = in-form (accepted (c .before .pre) refl .range) (c .odd-form .ensures)
+numbers-of-requires : tie.Need-numbers-of-requires
+numbers-of-requires c κs = in-form (accepted (c .before .pre) refl .range) (c .odd-form .ensures)
 
 spread-requires : tie.Need-spread-requires
 spread-requires c κs = search needs
@@ -23,8 +24,9 @@ returns : tie.Need-returns
 returns c =
     let s = c .before .before in
     let o = s .before .before in
-    facts-are _ (o .before .pre) (c .before .inverse .ensures) refl refl (o .odd-form .ensures) refl (s .before .period .ensures .0) (s .spread .ensures) refl
+    let n = s .before .numbers-of .ensures in
+    facts-are _ (o .before .pre) (c .before .inverse .ensures) refl refl (arp-numbers (o .odd-form .ensures) (n .0) (n .1)) (s .spread .ensures) refl
 
 pub facts-of-spec : {M : Type 1} → statement M
 facts-of-spec =
-    tie.close (tie.spec odd-form-requires period-requires spread-requires inverse-requires returns)
+    tie.close (tie.spec odd-form-requires numbers-of-requires spread-requires inverse-requires returns)

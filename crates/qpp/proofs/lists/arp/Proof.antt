@@ -23,8 +23,8 @@ returns c = let n = c .formless .ensures in refuse-triple (n .0) (c .before .bef
 odd-form-requires : tie.Need-odd-form-requires
 odd-form-requires c κs = accepted (c .before .accept .ensures) (omega arith) .range
 
-period-requires : tie.Need-period-requires
-period-requires c κs = in-form (accepted (c .before .before .accept .ensures) (omega arith) .range) (c .odd-form .ensures)
+numbers-of-requires : tie.Need-numbers-of-requires
+numbers-of-requires c κs = in-form (accepted (c .before .before .accept .ensures) (omega arith) .range) (c .odd-form .ensures)
 
 cast-if2 : tie.Need-cast-if2
 cast-if2 c = search needs
@@ -35,15 +35,15 @@ formless-requires-2 c κs = search needs
 returns-2 : tie.Need-returns-2
 returns-2 c =
     let n = c .formless2 .ensures in
-    let b = c .before .before in
+    let b = c .before .before .before in
     refuse-later (n .0) (accepted (b .before .before .before .accept .ensures) (omega arith))
-    (inl (refl, (b .period .result, subst (λ (w : Triple). Period w (b .period .result)) (b .before .odd-form .ensures) (b .period .ensures .0), omega arith)))
+    (inl (refl, (b .numbers-of .result .q, subst (λ (w : Triple). Period w (b .numbers-of .result .q)) (b .before .odd-form .ensures) (b .numbers-of .ensures .1), omega arith)))
     (omega arith)
     (n .1, n .2, refl)
 
 shifts-requires : tie.Need-shifts-requires
 shifts-requires c κs =
-    let b = c .before .before in
+    let b = c .before .before .before in
     (in-form (accepted (b .before .before .before .accept .ensures) (omega arith) .range) (b .before .odd-form .ensures), omega arith)
 
 same-length : tie.Need-same-length
@@ -51,11 +51,11 @@ same-length c = search needs
 
 returns-3 : tie.Need-returns-3
 returns-3 c =
-    let b = c .before .before .before .before .before in
-    let p = subst (λ (w : Triple). Period w (b .period .result)) (b .before .odd-form .ensures) (b .period .ensures .0) in
+    let b = c .before .before .before .before .before .before in
+    let p = subst (λ (w : Triple). Period w (b .numbers-of .result .q)) (b .before .odd-form .ensures) (b .numbers-of .ensures .1) in
     let s = accepted (b .before .before .before .accept .ensures) (omega arith) in
     answer-all s (inr ((λ h. omega (arith, h .2, period-one (h .1) p)), refl))
-    (arp-form s (b .before .odd-form .ensures) (b .period .ensures .0) (c .before .before .shifts .ensures))
+    (arp-form s (b .before .odd-form .ensures) (b .numbers-of .ensures .0) (b .numbers-of .ensures .1) (c .before .before .shifts .ensures))
 
 pub arp-spec : {M : Type 1} → statement M
 arp-spec =
@@ -65,7 +65,7 @@ arp-spec =
     formless-requires
     returns
     odd-form-requires
-    period-requires
+    numbers-of-requires
     cast-if2
     formless-requires-2
     returns-2
