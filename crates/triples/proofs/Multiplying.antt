@@ -45,7 +45,7 @@ pub record Quotient (k m r : ℕ) : Type 0 where
 pub quotient : (k : ℕ) → 0 < k → k ≤ 8192 → Quotient k (scale / k) (scale % k)
 quotient k pos high = record { split = mod-add-div' scale k; less = mod-lt scale pos; high = high; large = large k pos high }
 
--- the coefficients p and q serve for a and b at x: w is what their sum, times k, is too high
+-- the coefficients p and q serve for a and b at x: their sum, times k, is too high by w
 scaled-place : (k a b p q x w : ℕ) → 0 < k → (p * x + q * (x * x)) * k ≡ (a * x + b * (x * x)) * scale + w → w < scale
     → (p + q * x) % scale * x % scale * k / scale ≡ (a * x + b * (x * x)) % k
 scaled-place k a b p q x w pos near small =
