@@ -80,8 +80,8 @@ none-marked k n r h j =
         ∙ bit-zero (j % 8)
 
 -- a byte of 255 marks every place that it holds
-pub byte-marked : (s : List ℕ) (i j : ℕ) → getD s (i / 8) 0 ≡ 255 → i ≤ j → j < i / 8 * 8 + 8 → marked s j ≡ true
+pub byte-marked : (k : ℕ) (s : List ℕ) (i j : ℕ) → j < k → getD s (i / 8) 0 ≡ 255 → i ≤ j → j < i / 8 * 8 + 8 → getD (marks k s) j false ≡ true
 unfolding marked
-byte-marked s i j full a b =
+byte-marked k s i j h full a b =
     let e : j / 8 ≡ i / 8 = omega arith in
-    ap (λ (x : ℕ). bit x (j % 8)) (ap (λ (q : ℕ). getD s q 0) e ∙ full) ∙ bit-full (j % 8) (omega arith)
+    getD-marks k s j h ∙ ap (λ (x : ℕ). bit x (j % 8)) (ap (λ (q : ℕ). getD s q 0) e ∙ full) ∙ bit-full (j % 8) (omega arith)

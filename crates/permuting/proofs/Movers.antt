@@ -9,7 +9,7 @@ use native.Mathlib.Omega.{arith}
 use lib.ListN.{length, getD, set}
 use Rattle.permuting.specs.Permutations.{Permutation, count}
 use Rattle.permuting.specs.Marks.{marks, Kept, Cleared, Marked, Followed, FirstFree}
-use Rattle.permuting.proofs.Marking.{length-marks, getD-marks}
+use Rattle.permuting.proofs.Marking.{length-marks}
 use Rattle.permuting.proofs.Keeping.{kept-none, kept-then, cleared-none-marked}
 use Rattle.permuting.proofs.Seen.{Seen, Unseen, fewer-unseen}
 use Rattle.permuting.proofs.Cycles.{OffCycle, OnCycle, cycles-begin, cycles-skip, cycle-open, cycle-step, cycle-close, in-marks, start-seen}
@@ -64,10 +64,10 @@ module _ {w : Direction} {A : Type 0} {d : A} {k : ℕ} {π : ℕ → ℕ} {old 
       → Between w d k π old clean xs s r
   between-next {clean} {s} {xs} {start} {r} perm c m f room kept = record {
     perm = perm;
-    cycles = cycles-skip r c (λ j a b. getD-marks k s j (omega (arith, f .most)) ∙ f .passed j a b);
+    cycles = cycles-skip r c (f .passed);
     block = m;
     start-le = f .most;
-    start-unseen = λ h. getD-marks k s r h ∙ f .free h;
+    start-unseen = f .free;
     room = room;
     kept = kept;
   }

@@ -28,6 +28,10 @@ pub record Kept (n : ℕ) (before after : List ℕ) : Type 0 where
   pub size : length after ≡ length before
   pub tail : drop n after ≡ drop n before
 
+-- in the list of yes and no, of any number of places, the answer stands at place i
+abbrev pub Stands : Bool → ℕ → List ℕ → Type 0
+Stands answer i s = (k : ℕ) → i < k → getD (marks k s) i false ≡ answer
+
 -- place i came to be marked, no other mark changed, and no byte past the one that holds it
 pub record Marked (i : ℕ) (before after : List ℕ) : Type 0 where
   pub marks : (k : ℕ) → marks k after ≡ set (marks k before) i true
@@ -38,9 +42,9 @@ pub record Followed (π : ℕ → ℕ) (i next : ℕ) (before after : List ℕ) 
   pub goes : next ≡ π i
   pub marked : Marked i before after
 
--- r is the first place from `from` on that is not marked, or n if there is none below n
+-- in the list of yes and no of n places, r is the first no from `from` on, or n if there is none
 pub record FirstFree (n from r : ℕ) (s : List ℕ) : Type 0 where
   pub least : from ≤ r
   pub most : r ≤ n
-  pub passed : (j : ℕ) → from ≤ j → j < r → marked s j ≡ true
-  pub free : r < n → marked s r ≡ false
+  pub passed : (j : ℕ) → from ≤ j → j < r → getD (marks n s) j false ≡ true
+  pub free : r < n → getD (marks n s) r false ≡ false

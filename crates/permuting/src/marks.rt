@@ -1,9 +1,7 @@
 // One bit to a place, so that a block of k symbols asks for (k + 7) / 8 bytes and no array of the library's own.
-ghost use mathlib.Core.Path.{_≡_};
-ghost use mathlib.Core.Bool.{Bool};
-ghost use Prim.Native.Nat.{ℕ, _+_, _*_, _/_, _≤_, _<_};
+ghost use Prim.Native.Nat.{_+_, _*_, _/_, _≤_, _<_};
 ghost use lib.ListN.{length};
-ghost use Rattle.permuting.specs.Marks.{marked, Marked, Cleared, FirstFree};
+ghost use Rattle.permuting.specs.Marks.{Stands, Marked, Cleared, FirstFree};
 
 // A mark is set and never taken back one by one: `clear` takes them all.
 pub fn mark(s: &mut [u8], i: usize)
@@ -15,7 +13,7 @@ pub fn mark(s: &mut [u8], i: usize)
 
 pub fn is_marked(s: &[u8], i: usize) -> bool
     requires { ⌜ i / 8 < length (now s) ⌝ }
-    ensures { λ r. ⌜ r ≡ marked (now (s .entry)) i ⌝ }
+    ensures { λ r. ⌜ Stands r i (now (s .entry)) ⌝ }
 {
     (s[i / 8] >> (i % 8)) & 1 == 1
 }

@@ -1,19 +1,21 @@
--- `first_free` meets its contract. The loop's invariant: every place from `from` up to i is marked.
+-- The loop's invariant: every place from `from` up to i is marked. The measure is what is left up to n; a full byte, passed as a whole,
+-- marks every place that it holds.
 use borrow.Author.Needs.{needs}
 use borrow.Author.Tests.{not-true, not-false}
-use mathlib.Core.Path.{_≡_, sym, _∙_}
+use mathlib.Core.Path.{_≡_, _∙_}
 use mathlib.Core.Logic.{by-cases}
-use mathlib.Core.Bool.{true}
+use mathlib.Core.Bool.{true, false}
 use Prim.Native.Nat.{ℕ, _-_, _≤_, _<_}
 use native.Mathlib.Decide.{ℕ-discrete, decLt}
 use native.Mathlib.Omega.{arith}
-use Rattle.permuting.specs.Marks.{marked}
+use lib.ListN.{getD}
+use Rattle.permuting.specs.Marks.{marks}
 use Rattle.permuting.proofs.Marking.{byte-marked}
 use Rattle.permuting.proofs.marks.first_free.Statement.{statement}
 use Rattle.permuting.proofs.marks.first_free.Tie as tie
 
 abbrev Inv-loop : tie.InvT-loop
-Inv-loop s from n i₀ i = (i ≤ n) × (from ≤ i) × ((j : ℕ) → from ≤ j → j < i → marked s j ≡ true)
+Inv-loop s from n i₀ i = (i ≤ n) × (from ≤ i) × ((j : ℕ) → from ≤ j → j < i → getD (marks n s) j false ≡ true)
 
 abbrev μ-loop : tie.MeasureT-loop
 μ-loop s from n i₀ i = n - i
@@ -32,9 +34,11 @@ loop-less c = search needs
 
 loop-again : tie.Need-loop-again Inv-loop μ-loop
 loop-again c =
-    let l = c .before .before .before .before .loop in
-    let full = byte-marked (c .before .before .before .before .before .before .args .s .now) (l .i) in
-    (search needs, omega arith, λ j a b. by-cases (decLt j (l .i)) (l .inv .2 j a) (λ q. full j (c .before .if1 .taken) (omega arith) (omega arith)))
+    let entered = c .before .before .before .before in
+    let l = entered .loop in
+    let args = entered .before .before .args in
+    let full = byte-marked (args .n) (args .s .now) (l .i) in
+    (search needs, omega arith, λ j a b. by-cases (decLt j (l .i)) (l .inv .2 j a) (λ q. full j (omega arith) (c .before .if1 .taken) (omega arith) (omega arith)))
 
 is-marked-requires : tie.Need-is-marked-requires Inv-loop μ-loop
 is-marked-requires c κs = search needs
@@ -46,7 +50,7 @@ returns c =
       least = omega arith;
       most = omega arith;
       passed = c .before .before .before .before .before .loop .inv .2;
-      free = λ _. sym (m .ensures) ∙ not-true (m .result) (c .if2 .taken);
+      free = λ h. m .ensures _ h ∙ not-true (m .result) (c .if2 .taken);
     }
 
 add-i : tie.Need-add-i Inv-loop μ-loop
@@ -57,9 +61,10 @@ loop-less-2 c = search needs
 
 loop-again-2 : tie.Need-loop-again-2 Inv-loop μ-loop
 loop-again-2 c =
-    let l = c .before .before .before .before .before .loop in
+    let entered = c .before .before .before .before .before in
+    let l = entered .loop in
     let m = c .before .is-marked in
-    let here = sym (m .ensures) ∙ not-false (m .result) (c .if2 .left) in
+    let here = m .ensures (entered .before .before .args .n) (omega arith) ∙ not-false (m .result) (c .if2 .left) in
     (omega arith, omega arith, λ j a b. by-cases (ℕ-discrete j (l .i)) (λ q. rw q here) (λ q. l .inv .2 j a (omega arith)))
 
 returns-2 : tie.Need-returns-2 Inv-loop μ-loop
