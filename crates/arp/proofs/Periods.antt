@@ -1,6 +1,6 @@
 -- The period: which q repeat, and the least of them.
 use mathlib.Core.Path.{_≡_, refl, sym, ap, subst, _∙_}
-use mathlib.Core.Logic.{_≢_}
+use mathlib.Core.Logic.{_≢_, _↔_}
 use Prim.Native.Nat.{ℕ, zero, suc, _+_, _*_, _/_, _%_, _≤_, _<_, _∣_}
 use native.Mathlib.Nat.{dvd-refl, dvd-mul-right-of-dvd, dvd-add, dvd-add-iff-left, dvd-of-mod-eq-zero, mod-eq-zero-of-dvd, div-mul-cancel, le-of-dvd, pos-of-dvd-of-pos}
 use native.Mathlib.Decide.{ℕ-discrete}
@@ -9,12 +9,7 @@ use Rattle.numbers.specs.Divisors.{IsGcd}
 use Rattle.numbers.proofs.Dividing.{dvd-make, quotient, gcd-exact}
 use Rattle.numbers.proofs.Congruences.{cong-eq, cong-same, same-cong, cong-zero, zero-cong, cong-add, cong-cancel, _⨾_}
 use Rattle.triples.specs.declared.Triple.{Triple}
-use Rattle.arp.specs.Arp.{Repeats, Period}
-
--- q repeats exactly where K divides f2·q² and 2·f2·q
-pub record Divided (t : Triple) (q : ℕ) : Type 0 where
-  pub square : t .k ∣ t .f2 * (q * q)
-  pub double : t .k ∣ 2 * t .f2 * q
+use Rattle.arp.specs.Arp.{Repeats, Divided, Period}
 
 divided-repeats : (t : Triple) (q : ℕ) → Divided t q → Repeats t q
 divided-repeats t q d i =
@@ -34,6 +29,10 @@ repeats-divided t q r = record { square = square; double = dvd-add-iff-left (t .
         cong-zero
         (cong-cancel (t .f2 * (1 * 1))
         (cong-eq {y = t .f2 * ((1 + q) * (1 + q))} (omega arith) ⨾ same-cong (t .f2 * ((1 + q) * (1 + q))) (t .f2 * (1 * 1)) (r 1) ⨾ cong-eq (omega arith)))
+
+-- K divides both f2·q² and 2·f2·q exactly when f2·i² mod K repeats with period q
+pub repeats-exactly : (t : Triple) (q : ℕ) → Divided t q ↔ Repeats t q
+repeats-exactly t q = (divided-repeats t q, repeats-divided t q)
 
 module _ (t : Triple) (g q : ℕ) (pos : 0 < t .k) (is : IsGcd (t .k) (2 * t .f2) g) (e : q ≡ t .k / g) where
   whole : q * g ≡ t .k

@@ -15,6 +15,11 @@ shift t j = t .f2 * (j * j) % t .k
 abbrev pub Repeats : Triple → ℕ → Type 0
 Repeats t q = (i : ℕ) → shift t (i + q) ≡ shift t i
 
+-- K divides both f2·q² and 2·f2·q. That this says the same as `Repeats` is proved.
+pub record Divided (t : Triple) (q : ℕ) : Type 0 where
+  pub square : t .k ∣ t .f2 * (q * q)
+  pub double : t .k ∣ 2 * t .f2 * q
+
 -- Q is the least divisor of K for which f2·i² mod K repeats with period Q.
 pub record Period (t : Triple) (q : ℕ) : Type 0 where
   pub divides : q ∣ t .k

@@ -18,6 +18,13 @@ appended-length {before} {at} {text} {after} {end} a =
     let l : length (take at before) ≡ at = length-take-le at before (omega (arith, a .size, a .fits)) in
     ap length (a .bytes) ∙ simp (length-append, length-drop) (omega (arith, a .size, a .fits))
 
+-- one buffer and one end fit a text
+pub appended-one : {before : List ℕ} {at : ℕ} {text a b : List ℕ} {end end′ : ℕ} → Appended before at text a end → Appended before at text b end′
+    → (a ≡ b) × (end ≡ end′)
+appended-one {before} {at} {text} p q =
+    let e = p .size ∙ sym (q .size) in
+    (p .bytes ∙ ap (λ (n : ℕ). take at before ++ (text ++ drop n before)) e ∙ sym (q .bytes), e)
+
 pub appended-none : {before : List ℕ} {at : ℕ} → at ≤ length before → Appended before at [] before at
 appended-none {before} {at} h = record { bytes = sym (take-append-drop at before); size = omega arith; fits = h }
 

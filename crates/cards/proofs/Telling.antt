@@ -18,6 +18,7 @@ use Rattle.qpp.proofs.Determined.{acceptance-one}
 use Rattle.cards.specs.declared.composing.Facts.{Facts}
 use Rattle.cards.specs.Texts.{newline, Reads, Appended}
 use Rattle.cards.specs.Cards.{unreadable-word, refused-word, ok-word, row, FactsOf, told, CardOf, unreadable, refused, accepted, CardAt}
+use Rattle.cards.proofs.Appending.{appended-one, appended-as}
 use Rattle.cards.proofs.Readings.{reads-one}
 
 -- from the calls
@@ -80,3 +81,7 @@ card-one (accepted k f1 f2 x r _ w p) (accepted k′ f1′ f2′ y s _ v q) =
     let e = reads-one r s in
     let w′ : FactsOf (triple k′ f1′ f2′) x = subst (λ (t : Triple). FactsOf t x) (same-triple e) w in
     p ∙ same-row ok-word e (facts-one w′ v) ∙ sym q
+
+-- and so no second buffer and no second end
+pub card-at-one : {line before a b : List ℕ} {at end end′ : ℕ} → CardAt line before at a end → CardAt line before at b end′ → (a ≡ b) × (end ≡ end′)
+card-at-one p q = appended-one (p .written) (appended-as (card-one (q .card) (p .card)) (q .written))

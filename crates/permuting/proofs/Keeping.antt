@@ -3,7 +3,8 @@ use mathlib.Core.Path.{_≡_, refl, sym, ap, _∙_}
 use mathlib.Core.Bool.{false}
 use mathlib.Core.List.{List, _++_}
 use Prim.Native.Nat.{ℕ, _*_, _≤_}
-use lib.ListN.{getD, drop, replicate, length-replicate}
+use native.Mathlib.Omega.{arith}
+use lib.ListN.{length, getD, drop, replicate, length-append, length-drop, length-replicate}
 use lib.Seq.{drop-at}
 use Rattle.permuting.specs.Marks.{marks, Kept, Cleared}
 use Rattle.permuting.proofs.Marking.{none-marked}
@@ -17,6 +18,9 @@ kept-then a b = record { size = b .size ∙ a .size; tail = b .tail ∙ a .tail 
 pub cleared-none-marked : {n : ℕ} {s₀ s₁ : List ℕ} (k : ℕ) → k ≤ n * 8 → Cleared n s₀ s₁ → (j : ℕ) → getD (marks k s₁) j false ≡ false
 cleared-none-marked {n} {s₀} k h c j = ap (λ (s : List ℕ). getD (marks k s) j false) (c .bytes) ∙ none-marked k n (drop n s₀) h j
 
+pub cleared-length : {n : ℕ} {s₀ s₁ : List ℕ} → n ≤ length s₀ → Cleared n s₀ s₁ → length s₁ ≡ length s₀
+cleared-length {n} {s₀} h c = ap length (c .bytes) ∙ simp (length-append, length-replicate, length-drop) (omega arith)
+
 -- no second answer is cleared
 pub cleared-one : {n : ℕ} {s₀ s₁ s₂ : List ℕ} → Cleared n s₀ s₁ → Cleared n s₀ s₂ → s₁ ≡ s₂
 cleared-one a b = a .bytes ∙ sym (b .bytes)
@@ -28,3 +32,6 @@ cleared-again {n} {s₀} a h b = record {
       ∙ ap (λ (s : List ℕ). replicate n 0 ++ s)
       (h .tail ∙ ap (λ (s : List ℕ). drop n s) (a .bytes) ∙ drop-at (replicate n 0) (drop n s₀) n (length-replicate n 0));
 }
+
+pub cleared-twice : {n : ℕ} {s₀ s₁ s₂ : List ℕ} → Cleared n s₀ s₁ → Cleared n s₁ s₂ → Cleared n s₀ s₂
+cleared-twice {n} {s₀} {s₁} a b = cleared-again a (kept-none n s₁) b

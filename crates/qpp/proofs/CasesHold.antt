@@ -1,38 +1,92 @@
 -- The proved cases hold.
-use mathlib.Core.Path.{_≡_, refl}
-use mathlib.Core.List.{List, [], _∷_}
-use Prim.Native.Nat.{ℕ, _<_}
+use mathlib.Core.Path.{_≡_, refl, sym, ap, _∙_}
+use mathlib.Core.Logic.{inr}
+use mathlib.Core.List.{List, [], _∷_, _++_}
+use Prim.Native.Nat.{ℕ, _+_, _-_, _/_, _≤_, _<_}
 use native.Mathlib.Nat.{dvd-refl}
 use native.Mathlib.Omega.{arith}
 use lib.Dec.{T, eqb}
-use lib.ListN.{length, getD, replicate}
-use Rattle.permuting.specs.Permutations.{Interleaved, Deinterleaved}
+use lib.ListN.{length, getD, replicate, length-append, List·getD-append}
+use lib.Seq.{drop-at, getD-append-add}
+use Rattle.permuting.specs.Marks.{Cleared}
+use Rattle.polynomials.proofs.Checking.{inverse-test}
 use Rattle.polynomials.proofs.Answering.{inverted-by-test}
-use Rattle.triples.specs.Shuffles.{triple, f}
-use Rattle.arp.specs.Arp.{shift, Arp}
+use Rattle.triples.specs.declared.Triple.{Triple}
+use Rattle.triples.specs.Shuffles.{triple, f, Shuffle, Written}
+use Rattle.arp.specs.Arp.{shift, Period}
 use Rattle.arp.proofs.Periods.{period-double}
-use Rattle.arp.proofs.Shifting.{arp-form}
+use Rattle.arp.proofs.Shifting.{arp-form, period-one}
+use Rattle.qpp.specs.Promises.{ArpOf, InverseOf}
+use Rattle.qpp.specs.Moving.{Moves, Interleaves, Deinterleaves}
 use Rattle.qpp.specs.Cases.{All, cases, letters}
 use Rattle.qpp.proofs.Answers.{answered}
-use Rattle.qpp.proofs.Judging.{accepted}
-use Rattle.qpp.proofs.Trying.{every, judged-as, same-below}
+use Rattle.qpp.proofs.Judging.{accepted, answer-all}
+use Rattle.qpp.proofs.Trying.{every, judge, judged-as, same-below}
 
 listed : (k f1 f2 : ℕ) (list : List ℕ) → length list ≡ k → T (every (λ x. eqb (getD list x 0) (f (triple k f1 f2) x)) k)
     → (length list ≡ k) × ((x : ℕ) → x < k → getD list x 0 ≡ f (triple k f1 f2) x)
 listed k f1 f2 list size e = (size, same-below k (λ x. getD list x 0) (f (triple k f1 f2)) e)
 
-interleaved : (π : ℕ → ℕ) (a b : List ℕ) → length b ≡ length a → T (every (λ i. eqb (getD b i 0) (getD a (π i) 0)) (length a)) → Interleaved 0 π a b
-interleaved π a b size e = record { size = size; holds = same-below (length a) (λ i. getD b i 0) (λ i. getD a (π i) 0) e }
+-- ---- a block is moved, with any scratch that is long enough
 
-deinterleaved : (π : ℕ → ℕ) (a b : List ℕ) → length b ≡ length a → T (every (λ i. eqb (getD b (π i) 0) (getD a i 0)) (length a)) → Deinterleaved 0 π a b
-deinterleaved π a b size e = record { size = size; holds = same-below (length a) (λ i. getD b (π i) 0) (λ i. getD a i 0) e }
+module _ (t : Triple) (judged : T (eqb (judge t) 0)) (before after marks rest : List ℕ) (size : length after ≡ length before) (fits : length before ≡ t .k)
+    (enough : length marks ≡ (t .k + 7) / 8) where
+  cleared : Cleared ((t .k + 7) / 8) (marks ++ rest) (replicate ((t .k + 7) / 8) 0 ++ rest)
+  cleared = record { bytes = ap (λ (l : List ℕ). replicate ((t .k + 7) / 8) 0 ++ l) (sym (drop-at marks rest ((t .k + 7) / 8) enough)) }
+
+  moves : {Done : Type 0} → Done → Moves t Done before (marks ++ rest) 0 after (replicate ((t .k + 7) / 8) 0 ++ rest)
+  moves done =
+      answer-all (accepted (judged-as t 0 judged) refl)
+      (inr ((λ ne. ne fits), inr ((λ short. omega (arith, simp length-append at short)), refl))) done
+
+  interleaves : T (every (λ i. eqb (getD after i 0) (getD before (f t i) 0)) (length before))
+      → Interleaves t 0 before (marks ++ rest) 0 after (replicate ((t .k + 7) / 8) 0 ++ rest)
+  interleaves e =
+      moves (record {
+        block = record { size = size; holds = same-below (length before) (λ i. getD after i 0) (λ i. getD before (f t i) 0) e };
+        scratch = cleared;
+      })
+
+  deinterleaves : T (every (λ i. eqb (getD after (f t i) 0) (getD before i 0)) (length before))
+      → Deinterleaves t 0 before (marks ++ rest) 0 after (replicate ((t .k + 7) / 8) 0 ++ rest)
+  deinterleaves e =
+      moves (record {
+        block = record { size = size; holds = same-below (length before) (λ i. getD after (f t i) 0) (λ i. getD before i 0) e };
+        scratch = cleared;
+      })
+
+-- ---- an inverse
+
+inverts : (k f1 f2 degree : ℕ) (a : List ℕ) → T (eqb (judge (triple k f1 f2)) 0) → length a ≡ 13
+    → T (inverse-test k (f (triple k f1 f2)) degree (0 ∷ a)) → InverseOf (triple k f1 f2) (record { number = 0; degree = degree; a = a })
+inverts k f1 f2 degree a judged places e = answered (judged-as (triple k f1 f2) 0 judged) (inverted-by-test k (f (triple k f1 f2)) degree a places e)
+
+-- ---- an ARP form
+
+-- what is written at the front of a list
+written-front : (rule : ℕ → ℕ) (n : ℕ) (room list rest : List ℕ) → length room ≡ n → length list ≡ n → ((i : ℕ) → i < n → getD list i 0 ≡ rule i)
+    → Written rule n (room ++ rest) (list ++ rest)
+written-front rule n room list rest r l entries =
+    record {
+      size = simp length-append (omega arith);
+      entries = λ i h. List·getD-append list rest 0 i (omega arith) ∙ entries i h;
+      rest = λ i h. past list l i h ∙ sym (past room r i h);
+    }
+  where
+    past : (front : List ℕ) → length front ≡ n → (i : ℕ) → n ≤ i → getD (front ++ rest) i 0 ≡ getD rest (i - n) 0
+    past front e i h = ap (λ (m : ℕ). getD (front ++ rest) m 0) {y = length front + (i - n)} (omega arith) ∙ getD-append-add front rest (i - n) 0
 
 -- K is gcd(K, 2·f2), so that 1 is the first candidate; it fails, and its double is the period
-arp-8 : Arp (triple 8 1 4) 1 2 (0 ∷ 4 ∷ []) (0 ∷ 4 ∷ [])
-arp-8 =
-    arp-form (accepted (judged-as (triple 8 1 4) 0 tt) refl) refl refl
-    (period-double (triple 8 1 4) 8 1 (omega arith) (record { left = dvd-refl 8; right = dvd-refl 8; greatest = λ d p q. p }) refl (λ e. omega arith) (λ e. omega arith))
-    (record { size = refl; entries = same-below 2 (λ j. getD (0 ∷ 4 ∷ []) j 0) (shift (triple 8 1 4)) tt; rest = λ j l. refl })
+arp-8 : (room rest : List ℕ) → length room ≡ 2 → ArpOf (triple 8 1 4) (room ++ rest) (record { number = 0; p = 1; q = 2 }) ((0 ∷ 4 ∷ []) ++ rest)
+arp-8 room rest e =
+    answer-all shuffle (inr ((λ short. omega (arith, short .2, period-one (short .1) period, length-append room rest)), refl))
+    (arp-form shuffle refl refl period (written-front (shift (triple 8 1 4)) 2 room (0 ∷ 4 ∷ []) rest e refl (same-below 2 (λ j. getD (0 ∷ 4 ∷ []) j 0) (shift (triple 8 1 4)) tt)))
+  where
+    shuffle : Shuffle (triple 8 1 4)
+    shuffle = accepted (judged-as (triple 8 1 4) 0 tt) refl
+
+    period : Period (triple 8 1 4) 2
+    period = period-double (triple 8 1 4) 8 1 (omega arith) (record { left = dvd-refl 8; right = dvd-refl 8; greatest = λ d p q. p }) refl (λ e. omega arith) (λ e. omega arith)
 
 infixr 4 _&_
 _&_ : {A B : Type 0} → A → B → A × B
@@ -41,26 +95,26 @@ a & b = (a, b)
 pub cases-hold : All cases
 cases-hold =
     judged-as (triple 2 0 1) 0 tt
-    & inverted-by-test 2 (f (triple 2 0 1)) 1 (1 ∷ replicate 12 0) refl tt
+    & inverts 2 0 1 1 (1 ∷ replicate 12 0) tt refl tt
     & judged-as (triple 2 1 1) 3 tt
     & judged-as (triple 3 1 1) 3 tt
     & listed 3 1 1 (0 ∷ 2 ∷ 0 ∷ []) refl tt
     & judged-as (triple 4 1 2) 0 tt
     & listed 4 1 2 (0 ∷ 3 ∷ 2 ∷ 1 ∷ []) refl tt
-    & inverted-by-test 4 (f (triple 4 1 2)) 1 (3 ∷ replicate 12 0) refl tt
+    & inverts 4 1 2 1 (3 ∷ replicate 12 0) tt refl tt
     & judged-as (triple 4 1 1) 3 tt
     & judged-as (triple 6 2 3) 0 tt
     & listed 6 2 3 (0 ∷ 5 ∷ 4 ∷ 3 ∷ 2 ∷ 1 ∷ []) refl tt
-    & inverted-by-test 6 (f (triple 6 2 3)) 1 (5 ∷ replicate 12 0) refl tt
-    & (refl, interleaved (f (triple 6 2 3)) (65 ∷ 66 ∷ 67 ∷ 68 ∷ 69 ∷ 70 ∷ []) (65 ∷ 70 ∷ 69 ∷ 68 ∷ 67 ∷ 66 ∷ []) refl tt)
+    & inverts 6 2 3 1 (5 ∷ replicate 12 0) tt refl tt
+    & (λ marks rest e. interleaves (triple 6 2 3) tt (65 ∷ 66 ∷ 67 ∷ 68 ∷ 69 ∷ 70 ∷ []) (65 ∷ 70 ∷ 69 ∷ 68 ∷ 67 ∷ 66 ∷ []) marks rest refl refl e tt)
     & judged-as (triple 8 1 4) 0 tt
-    & inverted-by-test 8 (f (triple 8 1 4)) 1 (5 ∷ replicate 12 0) refl tt
-    & (refl, arp-8)
+    & inverts 8 1 4 1 (5 ∷ replicate 12 0) tt refl tt
+    & arp-8
     & judged-as (triple 9 1 3) 0 tt
-    & inverted-by-test 9 (f (triple 9 1 3)) 2 (1 ∷ 6 ∷ replicate 11 0) refl tt
-    & (refl, interleaved (f (triple 9 1 3)) letters (65 ∷ 69 ∷ 70 ∷ 68 ∷ 72 ∷ 73 ∷ 71 ∷ 66 ∷ 67 ∷ []) refl tt)
-    & (refl, deinterleaved (f (triple 9 1 3)) letters (65 ∷ 72 ∷ 73 ∷ 68 ∷ 66 ∷ 67 ∷ 71 ∷ 69 ∷ 70 ∷ []) refl tt)
-    & inverted-by-test 40 (f (triple 40 3 10)) 2 (27 ∷ 10 ∷ replicate 11 0) refl tt
+    & inverts 9 1 3 2 (1 ∷ 6 ∷ replicate 11 0) tt refl tt
+    & (λ marks rest e. interleaves (triple 9 1 3) tt letters (65 ∷ 69 ∷ 70 ∷ 68 ∷ 72 ∷ 73 ∷ 71 ∷ 66 ∷ 67 ∷ []) marks rest refl refl e tt)
+    & (λ marks rest e. deinterleaves (triple 9 1 3) tt letters (65 ∷ 72 ∷ 73 ∷ 68 ∷ 66 ∷ 67 ∷ 71 ∷ 69 ∷ 70 ∷ []) marks rest refl refl e tt)
+    & inverts 40 3 10 2 (27 ∷ 10 ∷ replicate 11 0) tt refl tt
     & answered (judged-as (triple 40 3 10) 0 tt) (record { below = omega arith; product = refl })
     & judged-as (triple 1 0 0) 1 tt
     & judged-as (triple 5 5 0) 2 tt

@@ -1,6 +1,6 @@
 -- What acceptance means, for it and for every call that begins with it.
-use mathlib.Core.Path.{_≡_, refl}
-use mathlib.Core.Logic.{_≢_, inl, inr, ⊎-elim, by-cases}
+use mathlib.Core.Path.{_≡_, refl, subst}
+use mathlib.Core.Logic.{_≢_, _↔_, inl, inr, ⊎-elim, by-cases}
 use mathlib.Core.List.{List, [], _∷_}
 use Prim.Native.Nat.{ℕ, _+_, _*_, _/_, _≤_, _<_}
 use native.Mathlib.Nat.{mod-lt}
@@ -8,8 +8,11 @@ use native.Mathlib.Decide.{ℕ-discrete, decLt}
 use native.Mathlib.Omega.{arith}
 use Rattle.triples.specs.declared.Triple.{Triple}
 use Rattle.triples.specs.Shuffles.{InRange, Permutes, Shuffle}
-use Rattle.qpp.proofs.Answers.{answered, refusing}
-use Rattle.qpp.specs.Refusals.{Test, First, Answer, range-then, shuffle-then, no-length, no-coefficient, no-shuffle, no-block, no-scratch, no-position}
+use Rattle.arp.specs.Arp.{Period}
+use Rattle.arp.proofs.Shifting.{period-one}
+use Rattle.qpp.proofs.Answers.{first-one, answered, refusing}
+use Rattle.qpp.specs.Refusals.{Test, First, Answer, range-then, shuffle-then, no-length, no-coefficient, no-shuffle, no-block, no-scratch, no-position, no-list}
+use Rattle.qpp.specs.Promises.{Acceptance}
 use Rattle.qpp.specs.Moving.{block-tests}
 use Rattle.moving.specs.Moves.{Ready}
 
@@ -98,6 +101,10 @@ accepted-then {t} more (inr (p, inr (q, inr (r, e)))) z = record { range = in-ra
 pub accepted : {t : Triple} {n : ℕ} → First (shuffle-then t []) n → n ≡ 0 → Shuffle t
 accepted {t} = accepted-then {t = t} []
 
+-- number 0 is given exactly to a shuffle
+pub accepted-exactly : {t : Triple} {n : ℕ} → Acceptance t n → (n ≡ 0) ↔ Shuffle t
+accepted-exactly {t} a = (accepted a, λ s. first-one (shuffle-then t []) a (shuffle-passes {t = t} [] s refl))
+
 -- a refusal stays one, whatever tests follow
 pub stays-refused : {t : Triple} {n : ℕ} (more : List Test) → First (shuffle-then t []) n → n ≢ 0 → First (shuffle-then t more) n
 stays-refused more (inl p) ne = inl p
@@ -129,6 +136,31 @@ refuse-later e s first ne nothing = refuse-in-range e (s .range) (inr ((λ not. 
 -- no test refuses
 pub answer-all : {t : Triple} {more : List Test} {Done Nothing : Type 0} → Shuffle t → First more 0 → Done → Answer (shuffle-then t more) 0 Done Nothing
 answer-all s first done = answer-in-range (s .range) (inr ((λ not. not (s .permutes)), first)) done
+
+-- the tests that follow gave 0
+pub answer-later : {t : Triple} {more : List Test} {n : ℕ} {Done Nothing : Type 0} → Shuffle t → First more n → n ≡ 0 → Done
+    → Answer (shuffle-then t more) 0 Done Nothing
+answer-later {t} {more} s first z done = answer-all s (subst (λ (k : ℕ). First more k) z first) done
+
+-- ---- and of one that writes a list
+
+-- no test refuses: the list has the entries that are needed
+pub none-short : {Needed : ℕ → Type 0} (needed size : ℕ) {n : ℕ} → Needed needed → First (no-list Needed size ∷ []) n → n ≡ 0 → needed ≤ size
+none-short needed size is (inl (e, _)) z = absurd (omega arith)
+none-short needed size is (inr (not, _)) z = by-cases (decLt size needed) (λ h. absurd (not (needed, is, h))) (λ h. omega arith)
+
+-- a list is long enough where as many entries are needed as it was tested for
+pub needed-entries : {Needed : ℕ → Type 0} (needed size : ℕ) {n : ℕ} → Needed needed → ((m : ℕ) → Needed m → m ≡ needed)
+    → First (no-list (λ m. m ≡ needed) size ∷ []) n → First (no-list Needed size ∷ []) n
+needed-entries needed size is one (inl (e, (m, same, short))) = inl (e, (needed, is, omega arith))
+needed-entries needed size is one (inr (not, z)) = inr ((λ h. not (needed, refl, omega (arith, h .2, one (h .0) (h .1)))), z)
+
+-- as the code takes the period, from a triple o that is the odd form
+pub period-entries : {o odd : Triple} {q size n : ℕ} → o ≡ odd → Period o q → First (no-list (λ m. m ≡ q) size ∷ []) n
+    → First (no-list (Period odd) size ∷ []) n
+period-entries {o} {odd} {q} {size} e is =
+    let period = subst (λ (w : Triple). Period w q) e is in
+    needed-entries q size period (λ m other. period-one other period)
 
 -- ---- and of one that moves a block
 

@@ -1,13 +1,11 @@
 -- The cases of the scope that are marked as proved: one list, and what each case says by the definitions.
 use mathlib.Core.Path.{_≡_}
-use mathlib.Core.List.{List, [], _∷_}
-use Prim.Native.Nat.{ℕ, _<_}
+use mathlib.Core.List.{List, [], _∷_, _++_}
+use Prim.Native.Nat.{ℕ, _+_, _/_, _<_}
 use lib.ListN.{length, getD, replicate}
-use Rattle.permuting.specs.Permutations.{Interleaved, Deinterleaved}
-use Rattle.polynomials.specs.Inverses.{Inverted}
 use Rattle.triples.specs.Shuffles.{triple, f}
-use Rattle.arp.specs.Arp.{Arp}
-use Rattle.qpp.specs.Promises.{Acceptance, ReciprocalOf}
+use Rattle.qpp.specs.Promises.{Acceptance, ReciprocalOf, ArpOf, InverseOf}
+use Rattle.qpp.specs.Moving.{Interleaves, Deinterleaves}
 
 -- Each begins with K, f1 and f2.
 pub data Case : Type 0 where
@@ -25,14 +23,21 @@ pub data Case : Type 0 where
   -- P, Q and S[0] to S[Q-1]
   arp : ℕ → ℕ → ℕ → ℕ → ℕ → List ℕ → Case
 
+-- What is a call's is said by its promise, with number 0: whatever scratch and list hold, and however much longer they are. The addresses
+-- are said by the definition, since a triple that is refused has them too.
 abbrev pub Holds : Case → Type 0
 Holds (judged k f1 f2 number) = Acceptance (triple k f1 f2) number
 Holds (addresses k f1 f2 list) = (length list ≡ k) × ((x : ℕ) → x < k → getD list x 0 ≡ f (triple k f1 f2) x)
 Holds (reciprocal k f1 f2 r) = ReciprocalOf (triple k f1 f2) (record { number = 0; value = r })
-Holds (interleaves k f1 f2 before after) = (length before ≡ k) × Interleaved 0 (f (triple k f1 f2)) before after
-Holds (deinterleaves k f1 f2 before after) = (length before ≡ k) × Deinterleaved 0 (f (triple k f1 f2)) before after
-Holds (inverse k f1 f2 degree a) = Inverted k (f (triple k f1 f2)) degree a
-Holds (arp k f1 f2 p q list) = (length list ≡ q) × Arp (triple k f1 f2) p q list list
+Holds (interleaves k f1 f2 before after) =
+    (marks rest : List ℕ) → length marks ≡ (k + 7) / 8
+    → Interleaves (triple k f1 f2) 0 before (marks ++ rest) 0 after (replicate ((k + 7) / 8) 0 ++ rest)
+Holds (deinterleaves k f1 f2 before after) =
+    (marks rest : List ℕ) → length marks ≡ (k + 7) / 8
+    → Deinterleaves (triple k f1 f2) 0 before (marks ++ rest) 0 after (replicate ((k + 7) / 8) 0 ++ rest)
+Holds (inverse k f1 f2 degree a) = InverseOf (triple k f1 f2) (record { number = 0; degree = degree; a = a })
+Holds (arp k f1 f2 p q list) =
+    (room rest : List ℕ) → length room ≡ q → ArpOf (triple k f1 f2) (room ++ rest) (record { number = 0; p = p; q = q }) (list ++ rest)
 
 abbrev pub All : List Case → Type 0
 All [] = Unit {0}

@@ -20,10 +20,11 @@ fn movable(k: u32, f1: u32, f2: u32, block: usize, scratch: usize) -> u32
         return number;
     }
     let places = k as usize;
+    let marks = (places + 7) / 8; // a bit for each place
     if block != places {
         return NO_BLOCK;
     }
-    if scratch < (places + 7) / 8 {
+    if scratch < marks {
         return NO_SCRATCH;
     }
     DONE
@@ -34,7 +35,7 @@ pub fn interleave_u8(k: u32, f1: u32, f2: u32, block: &mut [u8], scratch: &mut [
     ensures { λ n. ⌜ Interleaves (triple k f1 f2) 0 (now (block .entry)) (now (scratch .entry)) n (now (block .exit)) (now (scratch .exit)) ⌝ }
 {
     let number = movable(k, f1, f2, block.len(), scratch.len());
-    if number != DONE { // nothing lent has been touched
+    if number != DONE {
         return number;
     }
     bytes::interleave_u8(Triple { k, f1, f2 }, block, scratch);

@@ -4,8 +4,20 @@ use crate::refusals::NO_LIST;
 use crate::shuffles::accept;
 use triples::Triple;
 ghost use mathlib.Core.Path.{_≡_};
+ghost use mathlib.Core.List.{[], _∷_};
 ghost use Rattle.triples.specs.Shuffles.{triple};
+ghost use Rattle.qpp.specs.Refusals.{First, no-list};
 ghost use Rattle.qpp.specs.Promises.{AddressList, ArpOf};
+
+// Has a list of this size the entries that are needed?
+fn long_enough(needed: usize, size: usize) -> u32
+    ensures { λ number. ⌜ First (no-list (λ n. n ≡ needed) size ∷ []) number ⌝ }
+{
+    if size < needed {
+        return NO_LIST;
+    }
+    DONE
+}
 
 // Writes f(0) to f(K-1) into the list.
 pub fn addresses(k: u32, f1: u32, f2: u32, list: &mut [u16]) -> u32
@@ -16,8 +28,9 @@ pub fn addresses(k: u32, f1: u32, f2: u32, list: &mut [u16]) -> u32
         return number;
     }
     let places = k as usize;
-    if list.len() < places {
-        return NO_LIST;
+    let number = long_enough(places, list.len());
+    if number != DONE {
+        return number;
     }
     triples::fill(Triple { k, f1, f2 }, places, list);
     DONE
@@ -47,8 +60,9 @@ pub fn arp(k: u32, f1: u32, f2: u32, list: &mut [u16]) -> ArpForm
     }
     let odd = triples::odd_form(Triple { k, f1, f2 });
     let found = arp::numbers_of(odd);
-    if list.len() < found.q as usize {
-        return formless(NO_LIST);
+    let number = long_enough(found.q as usize, list.len());
+    if number != DONE {
+        return formless(number);
     }
     arp::shifts(odd, found.q, list);
     ArpForm {

@@ -11,6 +11,8 @@ ghost use mathlib.Core.List.{[]};
 ghost use Rattle.qpp.specs.Refusals.{First, range-then};
 ghost use Rattle.qpp.specs.Promises.{Acceptance, Address, ReciprocalOf, SpreadOf};
 
+const SHORTEST: u32 = 2;
+
 const LONGEST: u32 = 8192;
 
 // A number of refusal, and beside 0 what was asked for.
@@ -30,16 +32,10 @@ fn refused(number: u32) -> Value
 pub fn range(k: u32, f1: u32, f2: u32) -> u32
     ensures { λ number. ⌜ First (range-then (triple k f1 f2) []) number ⌝ }
 {
-    if k < 2 {
+    if k < SHORTEST || k > LONGEST {
         return NO_LENGTH;
     }
-    if k > LONGEST {
-        return NO_LENGTH;
-    }
-    if f1 >= k {
-        return NO_COEFFICIENT;
-    }
-    if f2 >= k {
+    if f1 >= k || f2 >= k {
         return NO_COEFFICIENT;
     }
     DONE

@@ -45,6 +45,10 @@ shifted-same t even x =
     (cong-add (cong-mul (cong-sym (cong-mod (t .k) (t .f1 + t .k / 2))) (cong-eq {x = x} refl)) (cong-mul (cong-sym (cong-mod (t .k) (t .f2 + t .k / 2))) (cong-eq {x = x * x} refl))
     ⨾ record { l = 0; r = q; eq = omega (arith, ap (λ (n : ℕ). t .k / 2 * n) e, ap (λ (n : ℕ). q * n) w) })
 
+-- the odd form is the same f, at every position
+pub odd-form-same : (t : Triple) (x : ℕ) → f (oddForm t) x ≡ f t x
+odd-form-same t = odd-form-cases (λ o. (x : ℕ) → f o x ≡ f t x) t (λ _ x. refl) (λ _ x. refl) (λ even _. shifted-same t even)
+
 -- the remainder by an even K has the parity of what was divided
 pub mod-parity : (k n : ℕ) → k % 2 ≡ 0 → n % k % 2 ≡ n % 2
 mod-parity k n even = mod-mod-of-dvd 2 n (dvd-of-mod-eq-zero 2 even)

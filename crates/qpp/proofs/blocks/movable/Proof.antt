@@ -1,4 +1,4 @@
--- `movable` meets its contract: each return is a row of the table.
+-- Each return is the row of the table that its test leads to.
 use mathlib.Core.Path.{refl}
 use mathlib.Core.Logic.{inl, inr}
 use mathlib.Core.List.{List, [], _∷_}
@@ -20,13 +20,13 @@ accept-requires c κs = search needs
 returns : tie.Need-returns
 returns c = let a = c .before .before .args in stays-refused (tests (a .k) (a .f1) (a .f2) (a .block) (a .scratch)) (c .before .accept .ensures) (c .if1 .taken)
 
+add-marks : tie.Need-add-marks
+add-marks c = search needs
+
 returns-2 : tie.Need-returns-2
 returns-2 c =
     let a = c .before .before .before .args in
     shuffle-passes (tests (a .k) (a .f1) (a .f2) (a .block) (a .scratch)) (accepted (c .before .before .accept .ensures) (omega arith)) (inl (refl, c .if2 .taken))
-
-add-if3 : tie.Need-add-if3
-add-if3 c = search needs
 
 returns-3 : tie.Need-returns-3
 returns-3 c =
@@ -41,4 +41,4 @@ returns-4 c =
     (inr ((λ ne. ne (omega arith)), inr ((λ h. omega arith), refl)))
 
 pub movable-spec : {M : Type 1} → statement M
-movable-spec = tie.close (tie.spec accept-requires returns returns-2 add-if3 returns-3 returns-4)
+movable-spec = tie.close (tie.spec accept-requires returns add-marks returns-2 returns-3 returns-4)

@@ -1,12 +1,9 @@
--- `arp` meets its contract.
-use mathlib.Core.Path.{refl, subst}
-use mathlib.Core.Logic.{inl, inr}
+-- Refused by the triple or by the length of the list, of which Q entries are needed; otherwise what `shifts` wrote, with P and Q.
+use mathlib.Core.Path.{refl}
 use native.Mathlib.Omega.{arith}
-use Rattle.triples.specs.declared.Triple.{Triple}
 use Rattle.triples.proofs.Forms.{in-form}
-use Rattle.arp.specs.Arp.{Period}
-use Rattle.arp.proofs.Shifting.{arp-form, period-one}
-use Rattle.qpp.proofs.Judging.{accepted, refuse-triple, refuse-later, answer-all}
+use Rattle.arp.proofs.Shifting.{arp-form}
+use Rattle.qpp.proofs.Judging.{accepted, refuse-triple, refuse-later, answer-later, none-short, period-entries}
 use borrow.Author.Needs.{needs}
 use Rattle.qpp.proofs.lists.arp.Statement.{statement}
 use Rattle.qpp.proofs.lists.arp.Tie as tie
@@ -26,36 +23,44 @@ odd-form-requires c κs = accepted (c .before .accept .ensures) (omega arith) .r
 numbers-of-requires : tie.Need-numbers-of-requires
 numbers-of-requires c κs = in-form (accepted (c .before .before .accept .ensures) (omega arith) .range) (c .odd-form .ensures)
 
-cast-if2 : tie.Need-cast-if2
-cast-if2 c = search needs
+cast-long-enough : tie.Need-cast-long-enough
+cast-long-enough c = search needs
+
+long-enough-requires : tie.Need-long-enough-requires
+long-enough-requires c κs = search needs
 
 formless-requires-2 : tie.Need-formless-requires-2
 formless-requires-2 c κs = search needs
 
 returns-2 : tie.Need-returns-2
 returns-2 c =
+    let tested = c .before .before in
+    let found = tested .before .before in
     let n = c .formless2 .ensures in
-    let b = c .before .before .before in
-    refuse-later (n .0) (accepted (b .before .before .before .accept .ensures) (omega arith))
-    (inl (refl, (b .numbers-of .result .q, subst (λ (w : Triple). Period w (b .numbers-of .result .q)) (b .before .odd-form .ensures) (b .numbers-of .ensures .1), omega arith)))
-    (omega arith)
+    refuse-later (n .0) (accepted (found .before .before .before .accept .ensures) (omega arith))
+    (period-entries (found .before .odd-form .ensures) (found .numbers-of .ensures .1) (tested .long-enough .ensures))
+    (c .before .if2 .taken)
     (n .1, n .2, refl)
 
 shifts-requires : tie.Need-shifts-requires
 shifts-requires c κs =
-    let b = c .before .before .before in
-    (in-form (accepted (b .before .before .before .accept .ensures) (omega arith) .range) (b .before .odd-form .ensures), omega arith)
+    let tested = c .before .before in
+    let found = tested .before .before in (
+      in-form (accepted (found .before .before .before .accept .ensures) (omega arith) .range) (found .before .odd-form .ensures),
+      none-short _ _ refl (tested .long-enough .ensures) (omega arith),
+    )
 
 same-length : tie.Need-same-length
 same-length c = search needs
 
 returns-3 : tie.Need-returns-3
 returns-3 c =
-    let b = c .before .before .before .before .before .before in
-    let p = subst (λ (w : Triple). Period w (b .numbers-of .result .q)) (b .before .odd-form .ensures) (b .numbers-of .ensures .1) in
-    let s = accepted (b .before .before .before .accept .ensures) (omega arith) in
-    answer-all s (inr ((λ h. omega (arith, h .2, period-one (h .1) p)), refl))
-    (arp-form s (b .before .odd-form .ensures) (b .numbers-of .ensures .0) (b .numbers-of .ensures .1) (c .before .before .shifts .ensures))
+    let written = c .before .before in
+    let tested = written .before .before .before in
+    let found = tested .before .before in
+    let s = accepted (found .before .before .before .accept .ensures) (omega arith) in
+    answer-later s (period-entries (found .before .odd-form .ensures) (found .numbers-of .ensures .1) (tested .long-enough .ensures)) (omega arith)
+    (arp-form s (found .before .odd-form .ensures) (found .numbers-of .ensures .0) (found .numbers-of .ensures .1) (written .shifts .ensures))
 
 pub arp-spec : {M : Type 1} → statement M
 arp-spec =
@@ -66,7 +71,8 @@ arp-spec =
     returns
     odd-form-requires
     numbers-of-requires
-    cast-if2
+    cast-long-enough
+    long-enough-requires
     formless-requires-2
     returns-2
     shifts-requires
