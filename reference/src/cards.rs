@@ -1,7 +1,8 @@
 //! The card program.
 
+use crate::inverting::inverse;
 use crate::line::Line;
-use crate::shuffle::{arp, inverse, spread, Triple, DONE};
+use crate::shuffle::{arp, spread, Triple, DONE};
 use std::io::{self, Write};
 
 pub fn write(input: &[u8], out: &mut impl Write) -> io::Result<()> {

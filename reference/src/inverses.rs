@@ -1,7 +1,8 @@
 //! Inverse polynomials.
 
+use crate::inverting::{inverse, Inverse};
 use crate::line::Line;
-use crate::shuffle::{inverse, Inverse, Triple};
+use crate::shuffle::Triple;
 use std::io::{self, Write};
 
 /// The 188 rows of 3GPP TS 36.212, clause 5.1.3.

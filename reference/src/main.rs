@@ -1,5 +1,7 @@
 //! Writes expected output for the shuffle f(x) = (f1·x + f2·x²) mod K, straight from the definitions.
-//! Slow and plain on purpose: nothing here uses a theorem where trying all cases will do.
+//! Plain on purpose, and slow. Whether f permutes is seen from all its values; the reciprocal is found by
+//! trying every number below K, ARP's Q by trying the divisors of K upwards, the spread by trying s downwards
+//! (shuffle.rs); the inverse polynomial by linear algebra over the whole numbers (inverting.rs).
 
 // Remainders are written out as in the definitions.
 #![allow(clippy::manual_is_multiple_of)]
@@ -9,6 +11,7 @@ mod card_input;
 mod cards;
 mod forms;
 mod inverses;
+mod inverting;
 mod line;
 mod shuffle;
 mod triples;

@@ -1,4 +1,5 @@
-//! The definitions, by brute force.
+//! The definitions, all but the inverse polynomial's: an answer is computed as it is written there, read off
+//! the list of all values, or found by trying the candidates in order.
 
 /// The scope's numbers of refusal.
 pub const DONE: u32 = 0;
@@ -95,92 +96,6 @@ impl Triple {
         let found: Vec<u32> = (0..self.k).filter(serves).collect();
         assert_eq!(found.len(), 1);
         (DONE, found[0])
-    }
-}
-
-#[derive(Clone, Copy, Debug, PartialEq, Eq)]
-pub struct Inverse {
-    pub number: u32,
-    pub degree: u32,
-    /// a1 to a13.
-    pub places: [u32; 13],
-}
-
-/// The inverse polynomial, peeled off the table of inverse values from the top degree down.
-///
-/// Why this is the polynomial inside the limits: write any polynomial with whole coefficients in Newton's
-/// form, the sum of bk·y(y-1)…(y-k+1). Its k-th forward difference at 0 is k!·bk, so the table fixes bk
-/// modulo K/gcd(K,k!). With every higher bk zero, bk is also the coefficient of y^k; subtracting ak·y^k with
-/// ak = bk inside its limit leaves a table of a polynomial of lower degree.
-pub fn inverse(t: Triple) -> Inverse {
-    let number = t.acceptance();
-    let mut answer = Inverse { number, degree: 0, places: [0; 13] };
-    if number != DONE {
-        return answer;
-    }
-    let k = t.k as u64;
-    let mut table = vec![0; t.k as usize];
-    for x in 0..t.k {
-        table[t.f(x) as usize] = x as u64;
-    }
-    for degree in (1..=13).rev() {
-        let a = newton_coefficient(&table, degree);
-        if a != 0 && answer.degree == 0 {
-            answer.degree = degree;
-        }
-        answer.places[degree as usize - 1] = a as u32;
-        for (y, entry) in table.iter_mut().enumerate() {
-            let term = a * power(y as u64, degree, t.k) % k;
-            *entry = (*entry + k - term) % k;
-        }
-    }
-    assert!(table.iter().all(|&entry| entry == 0), "peeling must use the table up");
-    check_inverse(t, &answer);
-    answer
-}
-
-/// The b below its limit with k!·b equal, modulo K, to the k-th forward difference of the table at 0.
-fn newton_coefficient(table: &[u64], degree: u32) -> u64 {
-    // Polynomials modulo K repeat with period K, so the table goes on from its start for small K.
-    let mut row: Vec<i64> = (0..=degree as usize).map(|y| table[y % table.len()] as i64).collect();
-    while row.len() > 1 {
-        row = row.windows(2).map(|pair| pair[1] - pair[0]).collect();
-    }
-    let k = table.len() as u64;
-    let difference = row[0].rem_euclid(k as i64) as u64;
-    (0..coefficient_limit(k, degree))
-        .find(|b| factorial(degree) * b % k == difference)
-        .expect("the table is that of a polynomial")
-}
-
-/// K divided by gcd(K, k!), the gcd found by trying every candidate.
-pub fn coefficient_limit(k: u64, degree: u32) -> u64 {
-    let product = factorial(degree);
-    let gcd = (1..=k).rev().find(|d| k % d == 0 && product % d == 0).unwrap();
-    k / gcd
-}
-
-fn factorial(n: u32) -> u64 {
-    (1..=n as u64).product()
-}
-
-fn power(y: u64, exponent: u32, k: u32) -> u64 {
-    (0..exponent).fold(1, |product, _| product * y % k as u64)
-}
-
-/// g(y) mod K for the places a1 to a13.
-pub fn evaluate(places: &[u32; 13], y: u32, k: u32) -> u32 {
-    let terms = (1..=13).map(|d| places[d as usize - 1] as u64 * power(y as u64, d, k));
-    (terms.sum::<u64>() % k as u64) as u32
-}
-
-fn check_inverse(t: Triple, answer: &Inverse) {
-    assert!((1..=13).contains(&answer.degree));
-    for degree in 1..=13 {
-        assert!((answer.places[degree as usize - 1] as u64) < coefficient_limit(t.k as u64, degree));
-    }
-    for x in 0..t.k {
-        assert_eq!(evaluate(&answer.places, t.f(x), t.k), x);
     }
 }
 

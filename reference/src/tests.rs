@@ -1,5 +1,6 @@
 //! The scope's own cases, and the inverse against all polynomials where they can be listed.
 
+use crate::inverting::{coefficient_limit, evaluate, inverse};
 use crate::shuffle::*;
 use crate::{card_input, cards, inverses};
 
@@ -150,9 +151,15 @@ fn all_lists(choices: &[u64]) -> Vec<Vec<u32>> {
     })
 }
 
-fn undoes(triple: Triple, list: &[u32], constant: u32) -> bool {
+/// a1 to a13 for a list that starts at a1.
+fn padded(list: &[u32]) -> [u32; 13] {
     let mut places = [0; 13];
     places[..list.len()].copy_from_slice(list);
+    places
+}
+
+fn undoes(triple: Triple, list: &[u32], constant: u32) -> bool {
+    let places = padded(list);
     (0..triple.k).all(|x| (evaluate(&places, triple.f(x), triple.k) + constant) % triple.k == x)
 }
 
@@ -176,4 +183,16 @@ fn inverse_is_the_only_one() {
             }
         }
     }
+}
+
+/// The scope on 6016, (23,94): source document 001 prints the same map outside the limits.
+#[test]
+fn printed_inverse_is_the_same_map() {
+    let triple = t(6016, 23, 94);
+    let printed = [1831, 3854, 1880, 4888];
+    let (places, answer) = (padded(&printed), inverse(triple).places);
+    assert!((0..6016).all(|y| evaluate(&places, y, 6016) == evaluate(&answer, y, 6016)));
+    assert!(undoes(triple, &printed, 0));
+    let outside = |degree: &u32| places[*degree as usize - 1] as u64 >= coefficient_limit(6016, *degree);
+    assert_eq!((1..=13).filter(outside).collect::<Vec<u32>>(), [2, 4]);
 }
