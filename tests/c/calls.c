@@ -117,6 +117,19 @@ static void inverses(void) {
     }
 }
 
+/* A printed inverse of 6016 (23,94) is the same map outside the limits: two of its coefficients are not below theirs. */
+static void printed_inverse(void) {
+    struct triple t = {6016, 23, 94};
+    const struct qpp_inverse printed = {0, 4, {1831, 3854, 1880, 4888}};
+    struct qpp_inverse ours = qpp_inverse(t.k, t.f1, t.f2);
+    for (uint32_t y = 0; y < t.k; y++)
+        CHECK(model_value(&printed, t.k, y) == model_value(&ours, t.k, y));
+    for (uint32_t j = 1; j <= 4; j++) {
+        CHECK(ours.a[j - 1] < model_limit(t.k, j));
+        CHECK((printed.a[j - 1] >= model_limit(t.k, j)) == (j == 2 || j == 4));
+    }
+}
+
 static void values(void) {
     struct triple t = {40, 3, 10};
     CHECK(qpp_reciprocal(40, 3, 10).value == 27);
@@ -231,12 +244,45 @@ static void lengths(void) {
     }
 }
 
+/* The numbers of the movers and of the calls that write a list, which are lent nothing. */
+static void no_buffers(struct triple t, uint32_t moving, uint32_t listing) {
+    CHECK(qpp_interleave_u8(t.k, t.f1, t.f2, NULL, 0, NULL, 0) == moving);
+    CHECK(qpp_deinterleave_u8(t.k, t.f1, t.f2, NULL, 0, NULL, 0) == moving);
+    CHECK(qpp_interleave_i16(t.k, t.f1, t.f2, NULL, 0, NULL, 0) == moving);
+    CHECK(qpp_deinterleave_i16(t.k, t.f1, t.f2, NULL, 0, NULL, 0) == moving);
+    CHECK(qpp_interleave_u8(t.k, t.f1, t.f2, NULL, 0, scratch, sizeof scratch) == moving);
+    CHECK(qpp_deinterleave_u8(t.k, t.f1, t.f2, NULL, 0, scratch, sizeof scratch) == moving);
+    CHECK(qpp_interleave_i16(t.k, t.f1, t.f2, NULL, 0, scratch, sizeof scratch) == moving);
+    CHECK(qpp_deinterleave_i16(t.k, t.f1, t.f2, NULL, 0, scratch, sizeof scratch) == moving);
+    CHECK(qpp_addresses(t.k, t.f1, t.f2, NULL, 0) == listing);
+    struct qpp_arp arp = qpp_arp(t.k, t.f1, t.f2, NULL, 0);
+    CHECK(arp.number == listing && arp.p == 0 && arp.q == 0);
+}
+
+/* A buffer of no entries may be NULL. Every call that is lent one refuses by the number that comes first. */
+static void nothing_lent(void) {
+    static const uint32_t refused[][4] = {{0, 0, 0, 1}, {8193, 1, 2, 1}, {9, 9, 3, 2}, {9, 1, 9, 2}, {9, 1, 1, 3}, {8192, 2, 2, 3}};
+    static const struct triple accepted[] = {{2, 0, 1}, {9, 1, 3}, {6144, 263, 480}, {8192, 1, 2}};
+    for (size_t i = 0; i < sizeof refused / sizeof *refused; i++)
+        no_buffers((struct triple){refused[i][0], refused[i][1], refused[i][2]}, refused[i][3], refused[i][3]);
+    for (size_t i = 0; i < sizeof accepted / sizeof *accepted; i++) {
+        struct triple t = accepted[i];
+        no_buffers(t, 4, 7);
+        CHECK(qpp_interleave_u8(t.k, t.f1, t.f2, bytes, t.k, NULL, 0) == 5);
+        CHECK(qpp_deinterleave_u8(t.k, t.f1, t.f2, bytes, t.k, NULL, 0) == 5);
+        CHECK(qpp_interleave_i16(t.k, t.f1, t.f2, words, t.k, NULL, 0) == 5);
+        CHECK(qpp_deinterleave_i16(t.k, t.f1, t.f2, words, t.k, NULL, 0) == 5);
+    }
+}
+
 void test_calls(void) {
     judging();
     inverses();
+    printed_inverse();
     values();
     lists();
     walkers();
     blocks();
     lengths();
+    nothing_lent();
 }

@@ -163,7 +163,7 @@ uint32_t model_move(struct triple t, enum direction d, size_t width, void *block
 }
 
 /* K divided by gcd(K, j!), the divisor found by trying every one. */
-static uint32_t limit(uint32_t k, uint32_t j) {
+uint32_t model_limit(uint32_t k, uint32_t j) {
     uint64_t factorial = 1;
     for (uint32_t i = 2; i <= j; i++)
         factorial *= i;
@@ -173,8 +173,7 @@ static uint32_t limit(uint32_t k, uint32_t j) {
     return k / d;
 }
 
-/* g(y) mod K */
-static uint32_t value(const struct qpp_inverse *g, uint32_t k, uint32_t y) {
+uint32_t model_value(const struct qpp_inverse *g, uint32_t k, uint32_t y) {
     uint64_t sum = 0, power = 1;
     for (int j = 0; j < 13; j++) {
         power = power * y % k;
@@ -195,12 +194,12 @@ bool model_fits_inverse(struct triple t, const struct qpp_inverse *g) {
     if (refused)
         return true;
     for (uint32_t j = 1; j <= g->degree; j++)
-        if (g->a[j - 1] >= limit(t.k, j))
+        if (g->a[j - 1] >= model_limit(t.k, j))
             return false;
     static uint32_t back[LONGEST];
     for (uint32_t x = 0; x < t.k; x++) {
         back[model_f(t, x)] = x;
-        if (value(g, t.k, model_f(t, x)) != x)
+        if (model_value(g, t.k, model_f(t, x)) != x)
             return false;
     }
     /* Least degree: the D-th difference of a polynomial of lower degree is 0 everywhere. Here it is not, at 0. The

@@ -32,10 +32,16 @@ fn refused(number: u32) -> Value
 pub fn range(k: u32, f1: u32, f2: u32) -> u32
     ensures { λ number. ⌜ First (range-then (triple k f1 f2) []) number ⌝ }
 {
-    if k < SHORTEST || k > LONGEST {
+    if k < SHORTEST {
         return NO_LENGTH;
     }
-    if f1 >= k || f2 >= k {
+    if k > LONGEST {
+        return NO_LENGTH;
+    }
+    if f1 >= k {
+        return NO_COEFFICIENT;
+    }
+    if f2 >= k {
         return NO_COEFFICIENT;
     }
     DONE

@@ -26,7 +26,7 @@ add-marks c = search needs
 returns-2 : tie.Need-returns-2
 returns-2 c =
     let a = c .before .before .before .args in
-    shuffle-passes (tests (a .k) (a .f1) (a .f2) (a .block) (a .scratch)) (accepted (c .before .before .accept .ensures) (omega arith)) (inl (refl, c .if2 .taken))
+    shuffle-passes (tests (a .k) (a .f1) (a .f2) (a .block) (a .scratch)) (accepted (c .before .before .accept .ensures) (omega arith)) (inl (refl, λ e. omega arith))
 
 returns-3 : tie.Need-returns-3
 returns-3 c =

@@ -6,10 +6,10 @@ use Rattle.qpp.proofs.lists.long_enough.Statement.{statement}
 use Rattle.qpp.proofs.lists.long_enough.Tie as tie
 
 returns : tie.Need-returns
-returns c = inl (refl, (_, refl, c .if1 .taken))
+returns c = inl (refl, (_, refl, omega arith))
 
 returns-2 : tie.Need-returns-2
-returns-2 c = inr ((λ h. omega (arith, h .1, h .2, c .if1 .left)), refl)
+returns-2 c = inr ((λ h. omega (arith, h .1, h .2)), refl)
 
 pub long-enough-spec : {M : Type 1} → statement M
 long-enough-spec = tie.close (tie.spec returns returns-2)
