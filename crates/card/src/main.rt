@@ -3,6 +3,13 @@ use cards::Line;
 ghost use Prim.Native.Nat.{_+_, _≤_};
 ghost use lib.ListN.{length};
 
+// Writes the cards at the start of the buffer, and answers whether all of them were written.
+fn write_cards(out: &[u8], end: usize) -> bool
+    requires { ⌜ end ≤ length (now out) ⌝ }
+{
+    io::write_all(libc::STDOUT_FILENO, &out[..end])
+}
+
 // Whether to go on, and how many bytes at the start of the buffer are not written yet.
 struct Room {
     going: bool,
@@ -18,7 +25,7 @@ fn make_room(out: &[u8], end: usize) -> Room
         return Room { going: true, end };
     }
     Room {
-        going: io::write_all(libc::STDOUT_FILENO, &out[..end]),
+        going: write_cards(out, end),
         end: 0,
     }
 }
@@ -58,42 +65,79 @@ fn take(piece: &[u8], unended: Line, out: &mut [u8], at: usize) -> Progress
     }
 }
 
-fn finish(line: Line, out: &mut [u8], at: usize)
+// Writes what is left at the end of the input, and answers whether all of it was written.
+fn finish(line: Line, out: &mut [u8], at: usize) -> bool
     requires { ⌜ (at ≤ length (now out)) × (256 ≤ length (now out)) ⌝ }
 {
     let room = make_room(out, at);
-    if room.going {
-        let end = cards::finish(line, out, room.end);
-        io::write_all(libc::STDOUT_FILENO, &out[..end]);
+    if !room.going {
+        return false;
     }
+    let end = cards::finish(line, out, room.end);
+    write_cards(out, end)
+}
+
+struct Failures {
+    reading: bool,
+    writing: bool,
 }
 
 // A proved loop has to end, and nothing says that the input does. So the loop counts its turns down, from a
 // number that no run uses up.
-fn run(piece: &mut [u8], out: &mut [u8])
+fn run(piece: &mut [u8], out: &mut [u8]) -> Failures
     requires { ⌜ 256 ≤ length (now out) ⌝ }
 {
     let mut line = Line::new();
     let mut end = 0;
     let mut turns = u64::MAX;
     while turns > 0 {
-        let size = io::count(libc::read(libc::STDIN_FILENO, piece), piece);
+        let got = libc::read(libc::STDIN_FILENO, piece);
+        if got < 0 {
+            break;
+        }
+        let size = io::count(got, piece);
         if size == 0 {
-            finish(line, out, end);
-            return;
+            return Failures {
+                reading: false,
+                writing: !finish(line, out, end),
+            };
         }
         let progress = take(&piece[..size], line, out, end);
         if !progress.going {
-            return;
+            return Failures {
+                reading: false,
+                writing: true,
+            };
         }
         line = progress.line;
         end = progress.end;
         turns -= 1;
+    }
+    // The input did not come to its end, so nobody knows the rest of the last line, and it gets no card.
+    Failures {
+        reading: true,
+        writing: !write_cards(out, end),
+    }
+}
+
+// A program has no exit status: whoever calls it learns of a failure from standard error alone.
+fn tell(failures: Failures) {
+    if failures.reading {
+        io::write_all(
+            libc::STDERR_FILENO,
+            b"card: standard input cannot be read\n",
+        );
+    }
+    if failures.writing {
+        io::write_all(
+            libc::STDERR_FILENO,
+            b"card: standard output cannot be written\n",
+        );
     }
 }
 
 fn main() {
     let mut piece = io::large_buffer();
     let mut out = io::large_buffer();
-    run(&mut piece, &mut out);
+    tell(run(&mut piece, &mut out));
 }

@@ -1,4 +1,5 @@
--- `take` is safe and ends.
+-- `take`'s loop: the cards end inside the buffer, whose length stays, and the bytes taken lie inside the piece. The bytes left
+-- fall, since `feed` takes one or more where there is room for a card, and `make_room` leaves that room.
 use mathlib.Core.Path.{_≡_}
 use Prim.Native.Nat.{_-_, _≤_}
 use native.Mathlib.Omega.{arith}
@@ -13,44 +14,8 @@ Inv-loop piece out₀ at line₀ end₀ done₀ out line end done = (end ≤ len
 abbrev μ-loop : tie.MeasureT-loop
 μ-loop piece out₀ at line₀ end₀ done₀ out line end done = length piece - done
 
-loop-holds : tie.Need-loop-holds Inv-loop μ-loop
-loop-holds c = search needs
-
-make-room-requires : tie.Need-make-room-requires Inv-loop μ-loop
-make-room-requires c κs = search needs
-
-same-length : tie.Need-same-length Inv-loop μ-loop
-same-length c = search needs
-
-returns : tie.Need-returns Inv-loop μ-loop
-returns c = search needs
-
-sub-feed : tie.Need-sub-feed Inv-loop μ-loop
-sub-feed c = search needs
-
-part-feed-start : tie.Need-part-feed-start Inv-loop μ-loop
-part-feed-start c = search needs
-
-part-feed-end : tie.Need-part-feed-end Inv-loop μ-loop
-part-feed-end c = search needs
-
-feed-requires : tie.Need-feed-requires Inv-loop μ-loop
-feed-requires c κs = search needs
-
-add-done : tie.Need-add-done Inv-loop μ-loop
-add-done c = search needs
-
 loop-less : tie.Need-loop-less Inv-loop μ-loop
 loop-less c = omega (arith, c .before .before .before .before .feed .ensures .moves (omega arith) (omega arith))
-
-loop-again : tie.Need-loop-again Inv-loop μ-loop
-loop-again c = search needs
-
-same-length-2 : tie.Need-same-length-2 Inv-loop μ-loop
-same-length-2 c = search needs
-
-returns-2 : tie.Need-returns-2 Inv-loop μ-loop
-returns-2 c = search needs
 
 pub take-spec : {M : Type 1} → statement M
 take-spec =
@@ -58,16 +23,16 @@ take-spec =
     (tie.spec
     Inv-loop
     μ-loop
-    loop-holds
-    make-room-requires
-    same-length
-    returns
-    sub-feed
-    part-feed-start
-    part-feed-end
-    feed-requires
-    add-done
+    (λ c. search needs)
+    (λ c κs. search needs)
+    (λ c. search needs)
+    (λ c. search needs)
+    (λ c. search needs)
+    (λ c. search needs)
+    (λ c. search needs)
+    (λ c κs. search needs)
+    (λ c. search needs)
     loop-less
-    loop-again
-    same-length-2
-    returns-2)
+    (λ c. search needs)
+    (λ c. search needs)
+    (λ c. search needs))
