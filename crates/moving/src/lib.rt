@@ -1,5 +1,9 @@
 // Blocks moved in place by the map of a triple. A mover has the coefficients scaled once, asks for a place at each step, and knows
-// nothing else of the map.
+// nothing else of the map. It walks one cycle after the other, each from the first place that no walk has left.
+//
+// Both widths go the same way. Interleaving, each place takes the symbol of the place that the map leads to; the first symbol is in
+// hand, since its place is the first to be stored to. Deinterleaving, each symbol goes to the place that the map leads to, and the one
+// that stood there is carried on.
 pub mod bytes; // blocks of unsigned bytes
 pub mod words; // blocks of signed 16-bit values
 
@@ -19,7 +23,8 @@ pub fn wipe(t: Triple, scratch: &mut [u8])
     ensures { λ _. ⌜ Cleared ((t .k + 7) / 8) (now (scratch .entry)) (now (scratch .exit)) ⌝ }
 {
     let k = t.k as usize;
-    marks::clear(scratch, (k + 7) / 8);
+    let bytes = (k + 7) / 8;
+    marks::clear(scratch, bytes);
 }
 
 // Marks the place i and answers where f leads from it. It is marked as the walk leaves it, so that no later cycle begins there.

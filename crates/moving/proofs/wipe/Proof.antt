@@ -6,8 +6,8 @@ use Rattle.moving.proofs.wipe.Tie as tie
 cast-k : tie.Need-cast-k
 cast-k c = search needs
 
-add-clear : tie.Need-add-clear
-add-clear c = search needs
+add-bytes : tie.Need-add-bytes
+add-bytes c = search needs
 
 clear-requires : tie.Need-clear-requires
 clear-requires c κs = search needs
@@ -19,4 +19,4 @@ returns : tie.Need-returns
 returns c = c .before .before .clear .ensures
 
 pub wipe-spec : {M : Type 1} → statement M
-wipe-spec = tie.close (tie.spec cast-k add-clear clear-requires same-length returns)
+wipe-spec = tie.close (tie.spec cast-k add-bytes clear-requires same-length returns)

@@ -1,4 +1,5 @@
--- `interleave_i16` meets its contract.
+-- `interleave_i16` meets its contract. The invariants and the measures are those of `interleave_u8`; a symbol is held as 16 bits, and
+-- `toZ-ofZ` says that they stand for the value that was read.
 use borrow.Author.Needs.{needs}
 use Prim.Native.Nat.{_-_}
 use native.Mathlib.Omega.{arith}
@@ -10,8 +11,8 @@ use Rattle.permuting.proofs.Walks.{interleave}
 use Rattle.permuting.proofs.Movers.{Between, Cycle, unseen, between-begin, cycle-enter, cycle-fewer, interleave-on, interleave-back}
 use Rattle.triples.specs.Shuffles.{f}
 use Rattle.moving.proofs.Ends.{interleaved-by}
-use Rattle.moving.proofs.words.interleave_i16.Statement.{statement}
-use Rattle.moving.proofs.words.interleave_i16.Tie as tie
+use Rattle.moving.proofs.words.interleave.interleave_i16.Statement.{statement}
+use Rattle.moving.proofs.words.interleave.interleave_i16.Tie as tie
 
 abbrev Inv-cycle : tie.InvT-cycle
 Inv-cycle t block₀ scratch₀ k scaled start first i₀ block scratch i = Cycle interleave (pos 0) (t .k) (f t) block₀ scratch₀ start block scratch i (toZ w16 first)

@@ -1,4 +1,5 @@
--- `deinterleave_u8` meets its contract.
+-- `deinterleave_u8` meets its contract. The invariants and the measures are those of `interleave_u8`, but that the symbol in hand is the one
+-- that stood at i.
 use borrow.Author.Needs.{needs}
 use mathlib.Core.Path.{refl}
 use Prim.Native.Nat.{_-_}
@@ -7,8 +8,8 @@ use Rattle.permuting.proofs.Walks.{deinterleave}
 use Rattle.permuting.proofs.Movers.{Between, Cycle, unseen, between-begin, cycle-enter, cycle-fewer, deinterleave-on, deinterleave-back}
 use Rattle.triples.specs.Shuffles.{f}
 use Rattle.moving.proofs.Ends.{deinterleaved-by}
-use Rattle.moving.proofs.bytes.deinterleave_u8.Statement.{statement}
-use Rattle.moving.proofs.bytes.deinterleave_u8.Tie as tie
+use Rattle.moving.proofs.bytes.deinterleave.deinterleave_u8.Statement.{statement}
+use Rattle.moving.proofs.bytes.deinterleave.deinterleave_u8.Tie as tie
 
 abbrev Inv-cycle : tie.InvT-cycle
 Inv-cycle t block₀ scratch₀ k scaled start carried₀ i₀ block scratch carried i = Cycle deinterleave 0 (t .k) (f t) block₀ scratch₀ start block scratch i carried
