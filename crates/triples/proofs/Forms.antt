@@ -94,11 +94,9 @@ permutes-form w h x y lx ly e =
 
 -- ---- as the code takes it
 
-pub odd-length-form : (t : Triple) → t .k % 2 ≢ 0 → t ≡ oddForm t
-odd-length-form t h = odd-form-cases (λ o. t ≡ o) t (λ _. refl) (λ _. refl) (λ even e. absurd (h even))
-
-pub odd-first-form : (t : Triple) → t .f1 % 2 ≢ 0 → t ≡ oddForm t
-odd-first-form t h = odd-form-cases (λ o. t ≡ o) t (λ _. refl) (λ _. refl) (λ even e. absurd (h e))
+-- the pair itself, unless K and f1 are both even
+pub own-form : (t : Triple) → (t .k % 2 ≡ 0 → t .f1 % 2 ≢ 0) → t ≡ oddForm t
+own-form t h = odd-form-cases (λ o. t ≡ o) t (λ _. refl) (λ _. refl) (λ even e. absurd (h even e))
 
 pub even-form : (t : Triple) → t .k % 2 ≡ 0 → t .f1 % 2 ≡ 0 → shifted t ≡ oddForm t
 even-form t p q = odd-form-cases (λ o. shifted t ≡ o) t (λ h. absurd (h p)) (λ h. absurd (h q)) (λ _ _. refl)

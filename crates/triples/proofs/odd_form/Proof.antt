@@ -1,15 +1,15 @@
 -- `odd_form` meets its contract.
 use native.Mathlib.Omega.{arith}
-use Rattle.triples.proofs.Forms.{odd-length-form, odd-first-form, even-form}
+use Rattle.triples.proofs.Forms.{own-form, even-form}
 use borrow.Author.Needs.{needs}
 use Rattle.triples.proofs.odd_form.Statement.{statement}
 use Rattle.triples.proofs.odd_form.Tie as tie
 
 returns : tie.Need-returns
-returns c = odd-length-form _ (c .if1 .taken)
+returns c = own-form _ (λ even. absurd (c .if1 .taken even))
 
 returns-2 : tie.Need-returns-2
-returns-2 c = odd-first-form _ (c .if2 .taken)
+returns-2 c = own-form _ (λ _. c .if2 .taken)
 
 add-t4 : tie.Need-add-t4
 add-t4 c = search needs
