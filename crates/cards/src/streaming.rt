@@ -1,7 +1,7 @@
 // Cards for an input that arrives in pieces of any size, into a buffer that is emptied now and then.
 use crate::lines::Line;
 use crate::writing::word;
-ghost use Prim.Native.Nat.{_+_, _≤_, _<_};
+ghost use Prim.Native.Nat.{_+_, _≤_};
 ghost use lib.ListN.{length};
 ghost use Rattle.cards.specs.Output.{ByteTaken, FedBy, Finished};
 

@@ -1,7 +1,6 @@
 -- A permutation comes to every position, and keeps how many elements pass a test, whatever the test. By weights: a map that takes no two
 -- positions to one meets no more weight than there is; so no test is passed more often after than before, nor is its contrary, and
 -- together they are passed by all.
---
 use mathlib.Core.Path.{_≡_, refl, sym, ap, ap₂, _∙_}
 use mathlib.Core.Logic.{_≢_}
 use mathlib.Core.List.{List, [], _∷_}

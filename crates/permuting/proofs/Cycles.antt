@@ -1,6 +1,5 @@
 -- The marks of a walk along the cycles of a map π, with no word of what is moved. Every seen place was reached from a seen one, but for the
 -- start of the cycle that is being walked; so, π taking no two places to one, the walk comes back nowhere but at its start.
---
 use mathlib.Core.Path.{_≡_, refl, sym, ap, _∙_}
 use mathlib.Core.Logic.{_≢_, _⊎_, inl, inr, ⊎-elim, by-cases}
 use mathlib.Core.List.{List}

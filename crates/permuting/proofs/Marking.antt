@@ -1,5 +1,4 @@
 -- Laws of the marks in bytes: how many, which, what a byte with one bit more does to them, and that zero bytes hold none.
---
 use mathlib.Core.Path.{_≡_, sym, ap, _∙_}
 use mathlib.Core.Logic.{_≢_, by-cases}
 use mathlib.Core.List.{List, _++_}

@@ -26,7 +26,6 @@ module _ (w : Direction) {A : Type 0} (d : A) (k : ℕ) (π : ℕ → ℕ) where
     pub perm : Permutation k π
     pub cycles : OffCycle k π (marks k s) start
     pub block : Moved w d k π old xs (marks k s) k
-    pub start-le : start ≤ k
     pub start-unseen : start < k → Unseen (marks k s) start
     pub room : k ≤ 8 * length s
     pub kept : Kept ((k + 7) / 8) clean s
@@ -66,7 +65,6 @@ module _ {w : Direction} {A : Type 0} {d : A} {k : ℕ} {π : ℕ → ℕ} {old 
     perm = perm;
     cycles = cycles-skip r c (f .passed);
     block = m;
-    start-le = f .most;
     start-unseen = f .free;
     room = room;
     kept = kept;

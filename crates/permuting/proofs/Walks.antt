@@ -1,5 +1,4 @@
 -- What stands where while a block is permuted along the cycles of a map π, in either direction, over any kind of element.
---
 use mathlib.Core.Path.{_≡_, refl, sym, ap, _∙_}
 use mathlib.Core.Logic.{_≢_, ⊎-elim}
 use mathlib.Core.List.{List}

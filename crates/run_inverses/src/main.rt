@@ -1,6 +1,5 @@
 // Inverse polynomials of many triples, a line each: K, f1, f2, the number, the degree and the thirteen places. The
 // rows of the standard come from standard input.
-ghost use Prim.Native.Nat.{_≤_};
 
 fn show(a: [u32; 13]) {
     for j in 0..13 {
