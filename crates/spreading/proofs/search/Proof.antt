@@ -25,7 +25,7 @@ closest-requires : tie.Need-closest-requires Inv-loop μ-loop
 closest-requires c κs = search needs
 
 returns : tie.Need-returns Inv-loop μ-loop
-returns c = search-near (c .before .before .before .loop .inv) (c .before .closest .ensures) (c .if1 .taken)
+returns c = search-near (c .before .before .before .loop .inv) (c .before .closest .ensures) (omega arith)
 
 lesser-requires : tie.Need-lesser-requires Inv-loop μ-loop
 lesser-requires c κs = search needs
@@ -38,7 +38,7 @@ loop-less c = search needs
 
 loop-again : tie.Need-loop-again Inv-loop μ-loop
 loop-again c =
-    search-step (c .before .before .before .before .loop .inv) (c .before .before .before .loop-test .taken) (c .before .before .closest .ensures) (c .before .if1 .left) (c .lesser .ensures)
+    search-step (c .before .before .before .before .loop .inv) (c .before .before .before .loop-test .taken) (c .before .before .closest .ensures) (omega arith) (c .lesser .ensures)
 
 returns-2 : tie.Need-returns-2 Inv-loop μ-loop
 returns-2 c = search-met (c .before .loop .inv) (omega arith)

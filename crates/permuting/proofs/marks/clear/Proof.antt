@@ -1,4 +1,5 @@
--- `clear` meets its contract. The loop's invariant: the bytes before i are cleared, and no other is touched.
+-- `clear` meets its contract. The loop's invariant: the bytes before i are cleared, and no other is touched. The measure is what is left
+-- up to n.
 use borrow.Author.Needs.{needs}
 use borrow.Author.Fill.{fill-more}
 use mathlib.Core.Path.{_≡_, refl, ap, _∙_}
@@ -11,13 +12,13 @@ use Rattle.permuting.proofs.marks.clear.Statement.{statement}
 use Rattle.permuting.proofs.marks.clear.Tie as tie
 
 abbrev Inv-loop : tie.InvT-loop
-Inv-loop s₀ n i₀ s i = (i ≤ n) × (length s ≡ length s₀) × Cleared i s₀ s
+Inv-loop s₀ n i₀ s i = Cleared i s₀ s × (i ≤ n) × (length s ≡ length s₀)
 
 abbrev μ-loop : tie.MeasureT-loop
 μ-loop s₀ n i₀ s i = n - i
 
 loop-holds : tie.Need-loop-holds Inv-loop μ-loop
-loop-holds c = (omega arith, refl, record { bytes = refl })
+loop-holds c = (record { bytes = refl }, omega arith, refl)
 
 slice-write-s : tie.Need-slice-write-s Inv-loop μ-loop
 slice-write-s c = search needs
@@ -33,7 +34,7 @@ loop-again c =
     let s₀ = c .before .before .args .s .now in
     let i = c .before .loop .i in
     let h : i < length s₀ = omega arith in
-    (search needs, search needs, record { bytes = ap (λ (l : List ℕ). set l i 0) (c .before .loop .inv .2 .bytes) ∙ fill-more i 0 s₀ h })
+    (record { bytes = ap (λ (l : List ℕ). set l i 0) (c .before .loop .inv .0 .bytes) ∙ fill-more i 0 s₀ h }, search needs, search needs)
 
 same-length : tie.Need-same-length Inv-loop μ-loop
 same-length c = search needs
@@ -41,7 +42,7 @@ same-length c = search needs
 returns : tie.Need-returns Inv-loop μ-loop
 returns c =
     let e : c .before .loop .i ≡ c .before .before .args .n = omega arith in
-    rw e at (c .before .loop .inv .2)
+    rw e at (c .before .loop .inv .0)
 
 pub clear-spec : {M : Type 1} → statement M
 clear-spec =

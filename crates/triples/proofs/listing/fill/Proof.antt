@@ -1,6 +1,8 @@
--- `fill` meets its contract.
+-- `fill` meets its contract. The loop's invariant, `Listing`: the places below x are written, the others are not, and value and rise are
+-- those of x. The measure is what is left of the list, which x runs along.
 use Prim.Native.Nat.{_-_}
 use native.Mathlib.Omega.{arith}
+use lib.ListN.{length}
 use borrow.Author.Needs.{needs}
 use Rattle.triples.proofs.Rows.{Listing, listing-start, listing-step, listing-end}
 use Rattle.triples.proofs.listing.fill.Statement.{statement}
@@ -10,7 +12,7 @@ abbrev Inv-loop : tie.InvT-loop
 Inv-loop t places list₀ twice rise₀ value₀ x₀ list rise value x = Listing t places list₀ list value rise x
 
 abbrev μ-loop : tie.MeasureT-loop
-μ-loop t places list₀ twice rise₀ value₀ x₀ list rise value x = places - x
+μ-loop t places list₀ twice rise₀ value₀ x₀ list rise value x = length list₀ - x
 
 plus-requires : tie.Need-plus-requires Inv-loop μ-loop
 plus-requires c κs = search needs
