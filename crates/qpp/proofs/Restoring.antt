@@ -22,38 +22,38 @@ use Rattle.qpp.proofs.Judging.{movable-ready}
 same-left : {A : Type 0} {a b b′ : List A} {s s₁ s₂ : List ℕ} → (b ≡ a) × (s₁ ≡ s) → (b′ ≡ a) × (s₂ ≡ s) → (b ≡ b′) × (s₁ ≡ s₂)
 same-left p q = (p .0 ∙ sym (q .0), p .1 ∙ sym (q .1))
 
--- what a refused call leaves alone, and a done call counts as before, is counted as before
-counted : {t : Triple} {A Done : Type 0} {a b : List A} {s s₁ : List ℕ} {n : ℕ} → (Ready t (length a) (length s) → Done → (p : A → Bool) → count p b ≡ count p a)
-    → Moves t Done a s n b s₁ → (p : A → Bool) → count p b ≡ count p a
-counted {t} {A} {Done} {a} {b} {s} {s₁} {n} done x p = pick (ℕ-discrete n 0)
+-- what holds of a done call, and of one that left block and scratch as they came, holds of every call
+either-way : {t : Triple} {A Done Both : Type 0} {a b : List A} {s s₁ : List ℕ} {n : ℕ} → (Ready t (length a) (length s) → Done → Both)
+    → ((b ≡ a) × (s₁ ≡ s) → Both) → Moves t Done a s n b s₁ → Both
+either-way {t} {A} {Done} {Both} {a} {b} {s} {s₁} {n} done refused x = pick (ℕ-discrete n 0)
   where
-    pick : Dec (n ≡ 0) → count p b ≡ count p a
-    pick (yes z) = done (movable-ready {t = t} (length a) (length s) n (x .first) z) (x .done z) p
-    pick (no ne) = ap (λ (l : List A). count p l) (x .refused ne .0)
+    pick : Dec (n ≡ 0) → Both
+    pick (yes z) = done (movable-ready {t = t} (length a) (length s) n (x .first) z) (x .done z)
+    pick (no ne) = refused (x .refused ne)
 
--- done or refused, a call leaves a block and a scratch as long as they came
-same-sizes : {t : Triple} {A Done : Type 0} {a b : List A} {s s₁ : List ℕ} {n : ℕ} → (Done → length b ≡ length a)
-    → (Done → Cleared ((t .k + 7) / 8) s s₁) → Moves t Done a s n b s₁ → (length b ≡ length a) × (length s₁ ≡ length s)
-same-sizes {t} {A} {Done} {a} {b} {s} {s₁} {n} size cleared x = pick (ℕ-discrete n 0)
-  where
-    pick : Dec (n ≡ 0) → (length b ≡ length a) × (length s₁ ≡ length s)
-    pick (yes z) =
-        let r = movable-ready {t = t} (length a) (length s) n (x .first) z in
-        (size (x .done z), cleared-length (r .scratch-size) (cleared (x .done z)))
-    pick (no ne) = (ap length (x .refused ne .0), ap length (x .refused ne .1))
+scratch-size : {t : Triple} {A Done : Type 0} {a b : List A} {s s₁ : List ℕ} {n : ℕ} → (Done → Cleared ((t .k + 7) / 8) s s₁)
+    → Moves t Done a s n b s₁ → length s₁ ≡ length s
+scratch-size {t} cleared = either-way {t = t} (λ r m. cleared-length (r .scratch-size) (cleared m)) (λ p. ap length (p .1))
 
--- so a second call meets the same tests; and where it undoes a first one that is done, it restores on every input
-restored : {t : Triple} {A Done Done′ : Type 0} {a b c : List A} {s s₁ s₂ : List ℕ} {n m : ℕ} → (Done → length b ≡ length a)
-    → (Done → Cleared ((t .k + 7) / 8) s s₁) → (Done′ → Cleared ((t .k + 7) / 8) s₁ s₂) → (Ready t (length a) (length s) → Done → Done′ → c ≡ a)
-    → Moves t Done a s n b s₁ → Moves t Done′ b s₁ m c s₂ → (m ≡ n) × ((c ≡ a) × (s₂ ≡ s₁))
-restored {t} {A} {Done} {Done′} {a} {b} {c} {s} {s₁} {s₂} {n} {m} size cleared cleared′ undone x y =
-    let (e, f) = same-sizes {t = t} size cleared x in
-    let (same, back) = answer-one-when both (λ p q. (q .0 ∙ p .0, q .1)) x (subst₂ (λ (u v : ℕ). Answer (block-tests t u v) m Done′ ((c ≡ b) × (s₂ ≡ s₁))) e f y) in
-    (sym same, back)
-  where
-    both : First (block-tests t (length a) (length s)) n → n ≡ 0 → Done → Done′ → (c ≡ a) × (s₂ ≡ s₁)
-    both first z p q =
-        (undone (movable-ready {t = t} (length a) (length s) n first z) p q, cleared-one (cleared-twice (cleared p) (cleared′ q)) (cleared p))
+-- a second call, on the block that the first left and a scratch as long as the first's, meets the same tests: both are done, or both refused
+after : {t : Triple} {A Done Done′ Both : Type 0} {a b c : List A} {s s₁ s₂ s₃ : List ℕ} {n m : ℕ} → (Done → length b ≡ length a)
+    → (Ready t (length a) (length s) → Done → Done′ → Both) → ((b ≡ a) × (s₁ ≡ s) → (c ≡ b) × (s₃ ≡ s₂) → Both)
+    → Moves t Done a s n b s₁ → length s₂ ≡ length s → Moves t Done′ b s₂ m c s₃ → (m ≡ n) × Both
+after {t} {A} {Done} {Done′} {Both} {a} {b} {c} {s} {s₁} {s₂} {s₃} {n} {m} size done refused x f y =
+    let e : length b ≡ length a = either-way {t = t} (λ _. size) (λ p. ap length (p .0)) x in
+    let (same, both) =
+    answer-one-when (λ first z. done (movable-ready {t = t} (length a) (length s) n first z)) refused x
+    (subst₂ (λ (u v : ℕ). Answer (block-tests t u v) m Done′ ((c ≡ b) × (s₃ ≡ s₂))) e f y) in
+    (sym same, both)
+
+-- the scratch that the first left is as long, and stays as it is
+with-its-scratch : {t : Triple} {A Done Done′ : Type 0} {a b c : List A} {s s₁ s₂ : List ℕ} {n m : ℕ} → (Done → length b ≡ length a)
+    → (Done → Cleared ((t .k + 7) / 8) s s₁) → (Done′ → Cleared ((t .k + 7) / 8) s₁ s₂) → Moves t Done a s n b s₁ → Moves t Done′ b s₁ m c s₂
+    → (length s₁ ≡ length s → (m ≡ n) × (c ≡ a)) → (m ≡ n) × ((c ≡ a) × (s₂ ≡ s₁))
+with-its-scratch {t} size cleared cleared′ x y undone =
+    let f = scratch-size {t = t} cleared x in
+    let stays = after {t = t} size (λ _ m m′. cleared-one (cleared-twice (cleared m) (cleared′ m′)) (cleared m)) (λ _ q. q .1) x f y in
+    (undone f .0, (undone f .1, stays .1))
 
 module _ {t : Triple} {A : Type 0} {d : A} where
   pub interleaves-one : {a b b′ : List A} {s s₁ s₂ : List ℕ} {n m : ℕ} → Interleaves t d a s n b s₁ → Interleaves t d a s m b′ s₂
@@ -69,23 +69,29 @@ module _ {t : Triple} {A : Type 0} {d : A} where
       (deinterleaved-one (r .permutes) (r .block-size) (p .block) (q .block), cleared-one (p .scratch) (q .scratch)))
       same-left
 
-  -- interleaving, then deinterleaving what it gave, answers the same number and gives the first block back, refused or not; the scratch
-  -- is as interleaving left it
+  -- interleaving, then deinterleaving with any scratch as long as the first: the same number, and the first block back, refused or not
+  pub deinterleaving-undoes : {a b c : List A} {s s₁ s₂ s₃ : List ℕ} {n m : ℕ} → Interleaves t d a s n b s₁ → length s₂ ≡ length s
+      → Deinterleaves t d b s₂ m c s₃ → (m ≡ n) × (c ≡ a)
+  deinterleaving-undoes =
+      after {t = t} (λ m. m .block .size) (λ r m m′. interleave-then-deinterleave (r .permutes) (r .block-size) (m .block) (m′ .block)) (λ p q. q .0 ∙ p .0)
+
+  -- with the scratch that interleaving left, which then stays as it is
   pub deinterleaving-restores : {a b c : List A} {s s₁ s₂ : List ℕ} {n m : ℕ} → Interleaves t d a s n b s₁ → Deinterleaves t d b s₁ m c s₂
       → (m ≡ n) × ((c ≡ a) × (s₂ ≡ s₁))
-  deinterleaving-restores =
-      restored {t = t} (λ m. m .block .size) (λ m. m .scratch) (λ m. m .scratch)
-      (λ r m m′. interleave-then-deinterleave (r .permutes) (r .block-size) (m .block) (m′ .block))
+  deinterleaving-restores x y = with-its-scratch {t = t} (λ m. m .block .size) (λ m. m .scratch) (λ m. m .scratch) x y (λ f. deinterleaving-undoes x f y)
 
-  -- deinterleaving, then interleaving what it gave, likewise
+  -- deinterleaving, then interleaving likewise
+  pub interleaving-undoes : {a b c : List A} {s s₁ s₂ s₃ : List ℕ} {n m : ℕ} → Deinterleaves t d a s n b s₁ → length s₂ ≡ length s
+      → Interleaves t d b s₂ m c s₃ → (m ≡ n) × (c ≡ a)
+  interleaving-undoes = after {t = t} (λ m. m .block .size) (λ _ m m′. deinterleave-then-interleave (m .block) (m′ .block)) (λ p q. q .0 ∙ p .0)
+
   pub interleaving-restores : {a b c : List A} {s s₁ s₂ : List ℕ} {n m : ℕ} → Deinterleaves t d a s n b s₁ → Interleaves t d b s₁ m c s₂
       → (m ≡ n) × ((c ≡ a) × (s₂ ≡ s₁))
-  interleaving-restores =
-      restored {t = t} (λ m. m .block .size) (λ m. m .scratch) (λ m. m .scratch) (λ _ m m′. deinterleave-then-interleave (m .block) (m′ .block))
+  interleaving-restores x y = with-its-scratch {t = t} (λ m. m .block .size) (λ m. m .scratch) (λ m. m .scratch) x y (λ f. interleaving-undoes x f y)
 
   -- each symbol value occurs as often after as before: every test of a symbol is passed as often
   pub interleaves-count : {a b : List A} {s s₁ : List ℕ} {n : ℕ} → Interleaves t d a s n b s₁ → (p : A → Bool) → count p b ≡ count p a
-  interleaves-count = counted (λ r m. interleaved-count (r .permutes) (r .block-size) (m .block))
+  interleaves-count x p = either-way {t = t} (λ r m. interleaved-count (r .permutes) (r .block-size) (m .block) p) (λ e. ap (λ (l : List A). count p l) (e .0)) x
 
   pub deinterleaves-count : {a b : List A} {s s₁ : List ℕ} {n : ℕ} → Deinterleaves t d a s n b s₁ → (p : A → Bool) → count p b ≡ count p a
-  deinterleaves-count = counted (λ r m. deinterleaved-count (r .permutes) (r .block-size) (m .block))
+  deinterleaves-count x p = either-way {t = t} (λ r m. deinterleaved-count (r .permutes) (r .block-size) (m .block) p) (λ e. ap (λ (l : List A). count p l) (e .0)) x
