@@ -1,4 +1,4 @@
--- `wipe` meets its contract.
+-- What `clear` clears is what is to be cleared: as many bytes as hold a mark for each place.
 use borrow.Author.Needs.{needs}
 use Rattle.moving.proofs.wipe.Statement.{statement}
 use Rattle.moving.proofs.wipe.Tie as tie

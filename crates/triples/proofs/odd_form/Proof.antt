@@ -1,4 +1,4 @@
--- `odd_form` meets its contract.
+-- Each return is the odd form by its cases: the triple itself, unless K and f1 are both even.
 use native.Mathlib.Omega.{arith}
 use Rattle.triples.proofs.Forms.{own-form, even-form}
 use borrow.Author.Needs.{needs}
