@@ -117,7 +117,7 @@ static void inverses(void) {
     }
 }
 
-/* A printed inverse of 6016 (23,94) is the same map outside the limits: two of its coefficients are not below theirs. */
+/* A printed inverse of 6016 (23,94) is the same map outside the limits: two coefficients are not below theirs. */
 static void printed_inverse(void) {
     struct triple t = {6016, 23, 94};
     const struct qpp_inverse printed = {0, 4, {1831, 3854, 1880, 4888}};
@@ -261,7 +261,9 @@ static void no_buffers(struct triple t, uint32_t moving, uint32_t listing) {
 
 /* A buffer of no entries may be NULL. Every call that is lent one refuses by the number that comes first. */
 static void nothing_lent(void) {
-    static const uint32_t refused[][4] = {{0, 0, 0, 1}, {8193, 1, 2, 1}, {9, 9, 3, 2}, {9, 1, 9, 2}, {9, 1, 1, 3}, {8192, 2, 2, 3}};
+    static const uint32_t refused[][4] = {
+        {0, 0, 0, 1}, {8193, 1, 2, 1}, {9, 9, 3, 2}, {9, 1, 9, 2}, {9, 1, 1, 3}, {8192, 2, 2, 3},
+    };
     static const struct triple accepted[] = {{2, 0, 1}, {9, 1, 3}, {6144, 263, 480}, {8192, 1, 2}};
     for (size_t i = 0; i < sizeof refused / sizeof *refused; i++)
         no_buffers((struct triple){refused[i][0], refused[i][1], refused[i][2]}, refused[i][3], refused[i][3]);

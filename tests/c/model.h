@@ -21,7 +21,7 @@ struct qpp_step model_step(struct qpp_walker w);
 uint32_t model_addresses(struct triple t, uint16_t *list, size_t n);
 /* width: the bytes of a symbol */
 uint32_t model_move(struct triple t, enum direction d, size_t width, void *block, size_t n, uint8_t *scratch, size_t m);
-uint32_t model_limit(uint32_t k, uint32_t j);                                    /* below which the j-th coefficient stays */
+uint32_t model_limit(uint32_t k, uint32_t j); /* below which the j-th coefficient stays */
 uint32_t model_value(const struct qpp_inverse *g, uint32_t k, uint32_t y); /* g(y) mod K */
 /* Has the answer every property that is promised of the inverse? No second answer has them all. */
 bool model_fits_inverse(struct triple t, const struct qpp_inverse *answer);

@@ -21,6 +21,10 @@ cleared-none-marked {n} {s₀} k h c j = ap (λ (s : List ℕ). getD (marks k s)
 pub cleared-length : {n : ℕ} {s₀ s₁ : List ℕ} → n ≤ length s₀ → Cleared n s₀ s₁ → length s₁ ≡ length s₀
 cleared-length {n} {s₀} h c = ap length (c .bytes) ∙ simp (length-append, length-replicate, length-drop) (omega arith)
 
+-- n bytes, of whatever they held, at the front of others
+pub cleared-front : {n : ℕ} (front rest : List ℕ) → length front ≡ n → Cleared n (front ++ rest) (replicate n 0 ++ rest)
+cleared-front {n} front rest e = record { bytes = ap (λ (l : List ℕ). replicate n 0 ++ l) (sym (drop-at front rest n e)) }
+
 -- no second answer is cleared
 pub cleared-one : {n : ℕ} {s₀ s₁ s₂ : List ℕ} → Cleared n s₀ s₁ → Cleared n s₀ s₂ → s₁ ≡ s₂
 cleared-one a b = a .bytes ∙ sym (b .bytes)

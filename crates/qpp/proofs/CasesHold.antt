@@ -1,18 +1,18 @@
 -- The proved cases hold.
-use mathlib.Core.Path.{_≡_, refl, sym, ap, _∙_}
+use mathlib.Core.Path.{_≡_, refl}
 use mathlib.Core.Logic.{inr}
 use mathlib.Core.List.{List, [], _∷_, _++_}
-use Prim.Native.Nat.{ℕ, _+_, _-_, _/_, _≤_, _<_}
+use Prim.Native.Nat.{ℕ, _+_, _/_, _<_}
 use native.Mathlib.Nat.{dvd-refl}
 use native.Mathlib.Omega.{arith}
 use lib.Dec.{T, eqb}
-use lib.ListN.{length, getD, replicate, length-append, List·getD-append}
-use lib.Seq.{drop-at, getD-append-add}
-use Rattle.permuting.specs.Marks.{Cleared}
+use lib.ListN.{length, getD, replicate, length-append}
+use Rattle.permuting.proofs.Keeping.{cleared-front}
 use Rattle.polynomials.proofs.Checking.{inverse-test}
 use Rattle.polynomials.proofs.Answering.{inverted-by-test}
 use Rattle.triples.specs.declared.Triple.{Triple}
-use Rattle.triples.specs.Shuffles.{triple, f, Shuffle, Written}
+use Rattle.triples.specs.Shuffles.{triple, f, Shuffle}
+use Rattle.triples.proofs.Rows.{written-front}
 use Rattle.arp.specs.Arp.{shift, Period}
 use Rattle.arp.proofs.Periods.{period-double}
 use Rattle.arp.proofs.Shifting.{arp-form, period-one}
@@ -31,9 +31,6 @@ listed k f1 f2 list size e = (size, same-below k (λ x. getD list x 0) (f (tripl
 
 module _ (t : Triple) (judged : T (eqb (judge t) 0)) (before after marks rest : List ℕ) (size : length after ≡ length before) (fits : length before ≡ t .k)
     (enough : length marks ≡ (t .k + 7) / 8) where
-  cleared : Cleared ((t .k + 7) / 8) (marks ++ rest) (replicate ((t .k + 7) / 8) 0 ++ rest)
-  cleared = record { bytes = ap (λ (l : List ℕ). replicate ((t .k + 7) / 8) 0 ++ l) (sym (drop-at marks rest ((t .k + 7) / 8) enough)) }
-
   moves : {Done : Type 0} → Done → Moves t Done before (marks ++ rest) 0 after (replicate ((t .k + 7) / 8) 0 ++ rest)
   moves done =
       answer-all (accepted (judged-as t 0 judged) refl)
@@ -44,7 +41,7 @@ module _ (t : Triple) (judged : T (eqb (judge t) 0)) (before after marks rest : 
   interleaves e =
       moves (record {
         block = record { size = size; holds = same-below (length before) (λ i. getD after i 0) (λ i. getD before (f t i) 0) e };
-        scratch = cleared;
+        scratch = cleared-front marks rest enough;
       })
 
   deinterleaves : T (every (λ i. eqb (getD after (f t i) 0) (getD before i 0)) (length before))
@@ -52,7 +49,7 @@ module _ (t : Triple) (judged : T (eqb (judge t) 0)) (before after marks rest : 
   deinterleaves e =
       moves (record {
         block = record { size = size; holds = same-below (length before) (λ i. getD after (f t i) 0) (λ i. getD before i 0) e };
-        scratch = cleared;
+        scratch = cleared-front marks rest enough;
       })
 
 -- ---- an inverse
@@ -62,19 +59,6 @@ inverts : (k f1 f2 degree : ℕ) (a : List ℕ) → T (eqb (judge (triple k f1 f
 inverts k f1 f2 degree a judged places e = answered (judged-as (triple k f1 f2) 0 judged) (inverted-by-test k (f (triple k f1 f2)) degree a places e)
 
 -- ---- an ARP form
-
--- what is written at the front of a list
-written-front : (rule : ℕ → ℕ) (n : ℕ) (room list rest : List ℕ) → length room ≡ n → length list ≡ n → ((i : ℕ) → i < n → getD list i 0 ≡ rule i)
-    → Written rule n (room ++ rest) (list ++ rest)
-written-front rule n room list rest r l entries =
-    record {
-      size = simp length-append (omega arith);
-      entries = λ i h. List·getD-append list rest 0 i (omega arith) ∙ entries i h;
-      rest = λ i h. past list l i h ∙ sym (past room r i h);
-    }
-  where
-    past : (front : List ℕ) → length front ≡ n → (i : ℕ) → n ≤ i → getD (front ++ rest) i 0 ≡ getD rest (i - n) 0
-    past front e i h = ap (λ (m : ℕ). getD (front ++ rest) m 0) {y = length front + (i - n)} (omega arith) ∙ getD-append-add front rest (i - n) 0
 
 -- K is gcd(K, 2·f2), so that 1 is the first candidate; it fails, and its double is the period
 arp-8 : (room rest : List ℕ) → length room ≡ 2 → ArpOf (triple 8 1 4) (room ++ rest) (record { number = 0; p = 1; q = 2 }) ((0 ∷ 4 ∷ []) ++ rest)

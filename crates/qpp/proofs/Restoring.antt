@@ -13,7 +13,7 @@ use Rattle.permuting.proofs.Counting.{interleaved-count}
 use Rattle.permuting.proofs.Permuting.{interleaved-one, deinterleaved-one, interleave-then-deinterleave, deinterleave-then-interleave, deinterleaved-count}
 use Rattle.moving.specs.Moves.{Ready}
 use Rattle.triples.specs.declared.Triple.{Triple}
-use Rattle.qpp.specs.Refusals.{First, Answer}
+use Rattle.qpp.specs.Refusals.{Answer}
 use Rattle.qpp.specs.Moving.{block-tests, Moves, Interleaves, Deinterleaves}
 use Rattle.qpp.proofs.Answers.{answer-one, answer-one-when}
 use Rattle.qpp.proofs.Judging.{movable-ready}

@@ -1,12 +1,12 @@
 -- The addresses in a row, each from the one before.
 use mathlib.Core.Path.{_≡_, refl, sym, ap, ap₂, _∙_}
-use mathlib.Core.List.{List}
-use Prim.Native.Nat.{ℕ, _+_, _*_, _%_, _≤_, _<_}
+use mathlib.Core.List.{List, _++_}
+use Prim.Native.Nat.{ℕ, _+_, _-_, _*_, _%_, _≤_, _<_}
 use native.Mathlib.Nat.{zero-mod}
 use native.Mathlib.Decide.{ℕ-discrete, decLt}
 use native.Mathlib.Omega.{arith}
-use lib.ListN.{length, getD, set, length-set}
-use lib.Seq.{getD-set-same, getD-set-other, ext-getD}
+use lib.ListN.{length, getD, set, length-set, length-append, List·getD-append}
+use lib.Seq.{getD-set-same, getD-set-other, getD-append-add, ext-getD}
 use Rattle.numbers.proofs.Congruences.{cong-eq, cong-sym, cong-same, cong-add, cong-mod, _⨾_}
 use Rattle.triples.specs.declared.Triple.{Triple}
 use Rattle.triples.specs.Shuffles.{f, Written}
@@ -85,3 +85,16 @@ written-one {rule} {n} {before} {a} {b} p q = ext-getD 0 a b (p .size ∙ sym (q
 
 pub written-same : {rule rule′ : ℕ → ℕ} {n : ℕ} {before after : List ℕ} → ((i : ℕ) → rule i ≡ rule′ i) → Written rule n before after → Written rule′ n before after
 written-same e w = record { size = w .size; entries = λ i h. w .entries i h ∙ e i; rest = w .rest }
+
+-- what is written at the front of a list
+pub written-front : (rule : ℕ → ℕ) (n : ℕ) (room list rest : List ℕ) → length room ≡ n → length list ≡ n → ((i : ℕ) → i < n → getD list i 0 ≡ rule i)
+    → Written rule n (room ++ rest) (list ++ rest)
+written-front rule n room list rest r l entries =
+    record {
+      size = simp length-append (omega arith);
+      entries = λ i h. List·getD-append list rest 0 i (omega arith) ∙ entries i h;
+      rest = λ i h. past list l i h ∙ sym (past room r i h);
+    }
+  where
+    past : (front : List ℕ) → length front ≡ n → (i : ℕ) → n ≤ i → getD (front ++ rest) i 0 ≡ getD rest (i - n) 0
+    past front e i h = ap (λ (m : ℕ). getD (front ++ rest) m 0) {y = length front + (i - n)} (omega arith) ∙ getD-append-add front rest (i - n) 0
