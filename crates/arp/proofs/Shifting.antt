@@ -1,5 +1,5 @@
 -- The shifts, the addresses that they give, and that one form fits.
-use mathlib.Core.Path.{_≡_, refl, sym, ap, subst, _∙_}
+use mathlib.Core.Path.{_≡_, refl, sym, ap, subst, subst₂, _∙_}
 use mathlib.Core.List.{List}
 use Prim.Native.Nat.{ℕ, zero, suc, _+_, _*_, _/_, _%_, _<_}
 use native.Mathlib.Nat.{mod-lt, mod-add-div', le-antisymm, pos-of-dvd-of-pos}
@@ -10,7 +10,7 @@ use Rattle.numbers.proofs.Congruences.{cong-eq, cong-sym, cong-same, cong-add, 
 use Rattle.triples.specs.declared.Triple.{Triple}
 use Rattle.triples.specs.Shuffles.{triple, f, Shuffle, Written, oddForm}
 use Rattle.triples.proofs.Rows.{written-one}
-use Rattle.triples.proofs.Rule.{OddUnit, odd-unit}
+use Rattle.acceptance.proofs.Rule.{OddUnit, odd-unit}
 use Rattle.arp.specs.Arp.{shift, Repeats, Period, ArpNumbers, Arp}
 
 -- the shifts are the addresses of the triple without its first coefficient
@@ -22,37 +22,35 @@ repeats-often t q r zero i = ap (λ (m : ℕ). shift t m) (omega arith)
 repeats-often t q r (suc n) i =
     ap (λ (m : ℕ). shift t m) {y = i + n * q + q} (omega arith) ∙ r (i + n * q) ∙ repeats-often t q r n i
 
--- as the code takes them, from the odd form o
-pub arp-numbers : {t o : Triple} {p q : ℕ} → o ≡ oddForm t → p ≡ o .f1 → Period o q → ArpNumbers t p q
-arp-numbers {t} {o} {p} {q} e first period =
-    record { first = first ∙ ap (λ (w : Triple). w .f1) e; period = subst (λ (w : Triple). Period w q) e period }
-
-pub arp-form : {t o : Triple} {p q : ℕ} {before after : List ℕ} → Shuffle t → o ≡ oddForm t → p ≡ o .f1 → Period o q → Written (shift o) q before after
+pub arp-form : {t o : Triple} {p q : ℕ} {before after : List ℕ} → Shuffle t → ArpNumbers t p q → o ≡ oddForm t → Written (shift o) q before after
     → Arp t p q before after
-arp-form {t} {o} {p} {q} {before} {after} s e first period shifts =
+arp-form {t} {o} {p} {q} {before} {after} s numbers odd written =
     record {
-      numbers = arp-numbers e first period;
-      coprime = subst (λ (n : ℕ). Coprime n (t .k)) (sym first) (unit .coprime);
-      shifts = subst (λ (w : Triple). Written (shift w) q before after) e shifts;
-      addresses = λ i h. ap (λ (n : ℕ). (n * i + getD after (i % q) 0) % t .k) first ∙ addresses i h;
+      numbers = numbers;
+      coprime = subst₂ (λ (n k : ℕ). Coprime n k) (sym (numbers .first)) (unit .length) (unit .coprime);
+      shifts = shifts;
+      addresses = λ i h. ap (λ (n : ℕ). (n * i + getD after (i % q) 0) % t .k) (numbers .first) ∙ addresses i h;
     }
   where
-    unit : OddUnit t o
-    unit = odd-unit s e
+    unit : OddUnit t (oddForm t)
+    unit = odd-unit s refl
+
+    shifts : Written (shift (oddForm t)) q before after
+    shifts = subst (λ (o : Triple). Written (shift o) q before after) odd written
 
     pos : 0 < q
-    pos = pos-of-dvd-of-pos (period .divides) (omega (arith, unit .length, s .range .low))
+    pos = pos-of-dvd-of-pos (numbers .period .divides) (omega (arith, unit .length, s .range .low))
 
-    shifted : (i : ℕ) → getD after (i % q) 0 ≡ shift o i
+    shifted : (i : ℕ) → getD after (i % q) 0 ≡ shift (oddForm t) i
     shifted i =
         shifts .entries (i % q) (mod-lt i pos)
-        ∙ sym (repeats-often o q (period .repeats) (i / q) (i % q))
-        ∙ ap (λ (m : ℕ). shift o m) (mod-add-div' i q)
+        ∙ sym (repeats-often (oddForm t) q (numbers .period .repeats) (i / q) (i % q))
+        ∙ ap (λ (m : ℕ). shift (oddForm t) m) (mod-add-div' i q)
 
-    addresses : (i : ℕ) → i < t .k → (o .f1 * i + getD after (i % q) 0) % t .k ≡ f t i
+    addresses : (i : ℕ) → i < t .k → (oddForm t .f1 * i + getD after (i % q) 0) % t .k ≡ f t i
     addresses i h =
-        subst (λ (k : ℕ). (o .f1 * i + getD after (i % q) 0) % k ≡ f o i) (unit .length)
-        (cong-same (cong-add (cong-eq {x = o .f1 * i} refl) (cong-eq (shifted i) ⨾ cong-sym (cong-mod (o .k) (o .f2 * (i * i))))))
+        subst (λ (k : ℕ). (oddForm t .f1 * i + getD after (i % q) 0) % k ≡ f (oddForm t) i) (unit .length)
+        (cong-same (cong-add (cong-eq {x = oddForm t .f1 * i} refl) (cong-eq (shifted i) ⨾ cong-sym (cong-mod (oddForm t .k) (oddForm t .f2 * (i * i))))))
         ∙ unit .same i
 
 -- ---- one form fits

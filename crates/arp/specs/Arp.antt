@@ -1,4 +1,4 @@
--- The almost regular (ARP) form. These are definitions.
+-- To be believed: the almost regular (ARP) form.
 use mathlib.Core.Path.{_≡_}
 use mathlib.Core.List.{List}
 use Prim.Native.Nat.{ℕ, _+_, _*_, _%_, _≤_, _<_, _∣_}

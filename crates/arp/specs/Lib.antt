@@ -1,1 +1,2 @@
 pub mod Arp
+pub mod Forms

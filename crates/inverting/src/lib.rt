@@ -1,11 +1,12 @@
-// The inverse of f(x) = (f1·x + f2·x²) mod k, as a polynomial.
+// The inverse of a shuffle, as a polynomial.
 mod terms;
 
 ghost use mathlib.Core.Path.{_≡_};
 ghost use lib.ListN.{length, drop};
-ghost use Rattle.triples.specs.Shuffles.{triple, f};
+ghost use Rattle.numbers.specs.Congruence.{Reciprocal};
+ghost use Rattle.triples.specs.Shuffles.{f, Shuffle, oddForm};
 ghost use Rattle.polynomials.specs.Inverses.{Inverted};
-ghost use Rattle.inverting.specs.Invertible.{Invertible};
+use triples::Triple;
 
 // a[0] is a1, the coefficient of y.
 pub struct Polynomial {
@@ -27,15 +28,25 @@ fn without_constant(p: &[u32; 14]) -> [u32; 13]
     a
 }
 
-// The inverse of f: the series, brought inside the limits. It is made of f2 and of the reciprocal r of f1; f1 itself is there for
-// the contract alone.
-pub fn inverse(k: u32, f1: u32, f2: u32, r: u32) -> Polynomial
-    requires { ⌜ Invertible k f1 f2 r ⌝ }
-    ensures { λ p. ⌜ Inverted k (f (triple k f1 f2)) (p .degree) (p .a) ⌝ }
+// The reciprocal of f1 in the odd form.
+pub fn reciprocal(t: Triple) -> u32
+    requires { ⌜ Shuffle t ⌝ }
+    ensures { λ r. ⌜ Reciprocal (t .k) (oddForm t .f1) r ⌝ }
 {
+    let odd = acceptance::odd_form(t);
+    numbers::reciprocal(odd.k, odd.f1)
+}
+
+// The inverse of f: the series of the odd form, brought inside the limits.
+pub fn inverse(t: Triple) -> Polynomial
+    requires { ⌜ Shuffle t ⌝ }
+    ensures { λ p. ⌜ Inverted (t .k) (f t) (p .degree) (p .a) ⌝ }
+{
+    let odd = acceptance::odd_form(t);
+    let r = numbers::reciprocal(odd.k, odd.f1);
     let mut p = [0u32; 14];
-    let top = terms::series(k, f2, r, &mut p);
-    polynomials::reduce(k, top, &mut p);
+    let top = terms::series(odd.k, odd.f2, r, &mut p);
+    polynomials::reduce(odd.k, top, &mut p);
     let degree = polynomials::degree(top, &p);
     let a = without_constant(&p);
     Polynomial {

@@ -1,2 +1,2 @@
--- `Ends`: what a mover's return gives.
-pub mod Ends
+-- `Returns`: what a mover's return gives.
+pub mod Returns

@@ -12,3 +12,4 @@ pub mod Seen
 pub mod Cycles
 pub mod Walks
 pub mod Movers
+pub mod Blocks

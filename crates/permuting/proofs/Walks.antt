@@ -7,13 +7,10 @@ use Prim.Native.Nat.{ℕ, _<_}
 use native.Mathlib.Omega.{arith}
 use lib.ListN.{length, getD, set, length-set}
 use lib.Seq.{getD-set-same, getD-set-other}
-use Rattle.permuting.specs.Permutations.{Permutation, Interleaved, Deinterleaved}
+use Rattle.permuting.specs.Permutations.{Permutation}
+use Rattle.permuting.specs.Blocks.{Direction, interleave, deinterleave, Permuted}
 use Rattle.permuting.proofs.Seen.{Seen, Unseen, clash, seen-how, unseen-other, unseen-before}
 use Rattle.permuting.proofs.Cycles.{OnCycle, in-marks, next-unseen, next-other}
-
-pub data Direction : Type 0 where
-  interleave : Direction
-  deinterleave : Direction
 
 -- place `to` i comes to hold what stood at `from` i
 abbrev pub to : Direction → (ℕ → ℕ) → ℕ → ℕ
@@ -23,10 +20,6 @@ to deinterleave π i = π i
 abbrev pub from : Direction → (ℕ → ℕ) → ℕ → ℕ
 from interleave π i = π i
 from deinterleave π i = i
-
-abbrev pub Permuted : Direction → {A : Type 0} → A → (ℕ → ℕ) → List A → List A → Type 0
-Permuted interleave d π before after = Interleaved d π before after
-Permuted deinterleave d π before after = Deinterleaved d π before after
 
 module _ {k : ℕ} {π : ℕ → ℕ} (perm : Permutation k π) where
   to-within : (w : Direction) (i : ℕ) → i < k → to w π i < k

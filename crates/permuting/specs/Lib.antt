@@ -1,3 +1,5 @@
 pub mod Tab
+pub mod Formulas
 pub mod Permutations
 pub mod Marks
+pub mod Blocks

@@ -1,10 +1,7 @@
--- `Answers`: laws of the table and of answers. `Judging`: what acceptance means. `Determined`: no second answer fits. `Restoring`: laws of
--- moving a block. `Strides`: laws of walking. `Demands`: the laws of the inverse. `Trying`, `CasesHold`: the proved cases.
-pub mod Answers
-pub mod Judging
-pub mod Determined
-pub mod Restoring
+-- `MapMoves`: the map of a shuffle and what a mover does with it. `RoundTrips`: laws of moving a block. `Strides`: laws of walking.
+-- `Demands`: the laws of the inverse. `Uniqueness`: no second answer fits.
+pub mod MapMoves
+pub mod RoundTrips
 pub mod Strides
 pub mod Demands
-pub mod Trying
-pub mod CasesHold
+pub mod Uniqueness

@@ -1,23 +1,22 @@
 -- From the start, step n hands out f(n mod K); and a walker, the address call and the address list agree at every position.
 use mathlib.Core.Path.{_≡_, refl, sym, ap, subst, _∙_}
-use mathlib.Core.Logic.{inr}
-use mathlib.Core.List.{List, [], _∷_}
+use mathlib.Core.List.{List, [], _∷_, _++_}
 use Prim.Native.Nat.{ℕ, zero, suc, _+_, _%_, _<_}
 use native.Mathlib.Nat.{mod-lt, mod-add-mod, zero-mod}
 use native.Mathlib.Numerals.{add-one}
 use native.Mathlib.Omega.{arith}
 use lib.ListN.{length, getD}
 use Rattle.triples.specs.declared.Triple.{Triple}
-use Rattle.triples.specs.Shuffles.{f, InRange, Shuffle}
+use Rattle.triples.specs.Shuffles.{f, quadratic, InRange, Shuffle}
 use Rattle.qpp.specs.declared.walker.Walker.{Walker}
 use Rattle.qpp.specs.declared.walker.Start.{Start}
 use Rattle.qpp.specs.declared.walker.Step.{Step}
 use Rattle.qpp.specs.declared.shuffles.Value.{Value}
 use Rattle.qpp.specs.Promises.{Address, AddressList}
-use Rattle.qpp.specs.Refusals.{range-then, shuffle-then, no-position, no-list}
-use Rattle.qpp.specs.Walking.{walker, Started, Stepped, Walk}
-use Rattle.qpp.proofs.Answers.{first-one}
-use Rattle.qpp.proofs.Judging.{accepted, accepted-then, range-passes, shuffle-passes}
+use Rattle.qpp.specs.Walkers.{walker, step-tests, Started, Stepped, Walk}
+use Rattle.refusals.specs.Refusals.{shuffle-tests, no-position, no-list}
+use Rattle.refusals.proofs.Tests.{first-one, none-first}
+use Rattle.refusals.proofs.Acceptance.{accepted, accepted-then, none-ranged, none-shuffle}
 
 -- what the step at a position hands out
 record Handed (t : Triple) (at : ℕ) (s : Step) : Type 0 where
@@ -30,9 +29,9 @@ handed {t} {at} {w} {s} range within e a = from (subst (λ (v : Walker). Stepped
   where
     from : Stepped (walker t at) s → Handed t at s
     from a =
+        let (short, (reach, _)) = none-ranged range in
         let z : s .number ≡ 0 =
-        first-one (range-then t (no-position t at ∷ [])) (a .first)
-        (range-passes {t = t} (no-position t at ∷ []) range (inr ((λ h. omega arith), refl))) in
+        first-one (step-tests (walker t at)) (a .first) (none-first (step-tests (walker t at)) (short, (reach, ((λ h. omega arith), tt))) refl) in
         record { number = z; address = a .done z .0; on = a .done z .1 }
 
 module _ {t : Triple} {start : Start} {steps : ℕ → Step} (started : Started t start) (done : start .number ≡ 0)
@@ -54,12 +53,12 @@ module _ {t : Triple} {start : Start} {steps : ℕ → Step} (started : Started 
   walk-addresses n = (stride n .number, stride n .address)
 
 -- at a position below K of a listed shuffle, all three hand out the same address
-pub three-agree : {t : Triple} {x n : ℕ} {r : Value} {s : Step} {before after : List ℕ} → x < t .k → AddressList t before n after → n ≡ 0
-    → Address t x r → Stepped (walker t x) s → (r .value ≡ getD after x 0) × (s .address ≡ getD after x 0)
+pub three-agree : {t : Triple} {x n : ℕ} {r : Value} {s : Step} {before after : List ℕ} → x < t .k → AddressList (quadratic t) before n after → n ≡ 0
+    → Address (quadratic t) x r → Stepped (walker t x) s → (r .value ≡ getD after x 0) × (s .address ≡ getD after x 0)
 three-agree {t} {x} {n} {r} {s} {before} {after} within list z called stepped =
-    let shuffle = accepted-then {t = t} (no-list (λ n. n ≡ t .k) (length before) ∷ []) (list .first) z in
-    let right : r .number ≡ 0 =
-    first-one (shuffle-then t (no-position t x ∷ [])) (called .first)
-    (shuffle-passes {t = t} (no-position t x ∷ []) shuffle (inr ((λ h. omega arith), refl))) in
+    let shuffle = accepted-then (no-list (λ n. n ≡ t .k) (length before) ∷ []) (list .first) z in
+    let (short, (reach, (permutes, _))) = none-shuffle shuffle in
+    let tests = shuffle-tests (quadratic t) ++ (no-position (t .k) x ∷ []) in
+    let right : r .number ≡ 0 = first-one tests (called .first) (none-first tests (short, (reach, (permutes, ((λ h. omega arith), tt)))) refl) in
     let here : getD after x 0 ≡ f t x = list .done z .entries x within in
     (called .done right ∙ sym here, handed (shuffle .range) within refl stepped .address ∙ sym here)

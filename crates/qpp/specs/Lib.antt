@@ -1,5 +1,2 @@
-pub mod Refusals
 pub mod Promises
-pub mod Walking
-pub mod Moving
-pub mod Cases
+pub mod Walkers

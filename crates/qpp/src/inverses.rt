@@ -1,6 +1,5 @@
 // The inverse polynomial.
-use crate::refusals::DONE;
-use crate::shuffles::accept;
+use refusals::DONE;
 use triples::Triple;
 ghost use Rattle.triples.specs.Shuffles.{triple};
 ghost use Rattle.qpp.specs.Promises.{InverseOf};
@@ -14,10 +13,12 @@ pub struct InverseForm {
 }
 
 // The polynomial that sends every address back to its position.
-pub fn inverse(k: u32, f1: u32, f2: u32) -> InverseForm
+#[no_mangle]
+pub extern "C" fn qpp_inverse(k: u32, f1: u32, f2: u32) -> InverseForm
     ensures { λ r. ⌜ InverseOf (triple k f1 f2) r ⌝ }
 {
-    let number = accept(k, f1, f2);
+    let t = Triple { k, f1, f2 };
+    let number = refusals::accept(t);
     if number != DONE {
         return InverseForm {
             number,
@@ -25,9 +26,7 @@ pub fn inverse(k: u32, f1: u32, f2: u32) -> InverseForm
             a: [0; 13],
         };
     }
-    let odd = triples::odd_form(Triple { k, f1, f2 });
-    let reciprocal = numbers::reciprocal(k, odd.f1);
-    let found = inverting::inverse(k, odd.f1, odd.f2, reciprocal);
+    let found = inverting::inverse(t);
     let a = found.a;
     InverseForm {
         number: DONE,

@@ -1,22 +1,18 @@
 // The walker over the addresses.
-use crate::refusals::DONE;
-use crate::refusals::NO_POSITION;
-use crate::shuffles::accept;
-use crate::shuffles::range;
+use refusals::DONE;
 use triples::Triple;
 ghost use mathlib.Core.Path.{_≡_};
 ghost use mathlib.Core.Bool.{true};
+ghost use mathlib.Core.List.{_++_};
 ghost use Prim.Native.Nat.{_+_, _%_, _<_};
-ghost use Rattle.triples.specs.Shuffles.{triple};
-ghost use Rattle.qpp.specs.Refusals.{First};
-ghost use Rattle.qpp.specs.Walking.{nowhere, step-tests, Started, Stepped};
+ghost use Rattle.triples.specs.Shuffles.{triple, quadratic};
+ghost use Rattle.refusals.specs.Refusals.{First};
+ghost use Rattle.qpp.specs.Walkers.{nowhere, step-tests, Started, Stepped};
 
 // A position of a triple. A walker made by hand may hold anything.
 #[repr(C)]
 pub struct Walker {
-    pub k: u32,
-    pub f1: u32,
-    pub f2: u32,
+    pub triple: Triple,
     pub at: u32,
 }
 
@@ -37,12 +33,8 @@ pub struct Step {
 fn zeros() -> Walker
     ensures { λ r. ⌜ r ≡ nowhere ⌝ }
 {
-    Walker {
-        k: 0,
-        f1: 0,
-        f2: 0,
-        at: 0,
-    }
+    let triple = Triple { k: 0, f1: 0, f2: 0 };
+    Walker { triple, at: 0 }
 }
 
 fn stopped(number: u32) -> Step
@@ -59,14 +51,11 @@ fn stopped(number: u32) -> Step
 fn standing(w: Walker) -> u32
     ensures { λ number. ⌜ First (step-tests w) number ⌝ }
 {
-    let number = range(w.k, w.f1, w.f2);
+    let number = refusals::range(w.triple);
     if number != DONE {
         return number;
     }
-    if w.at >= w.k {
-        return NO_POSITION;
-    }
-    DONE
+    refusals::position(w.triple.k, w.at)
 }
 
 // Is the number 0? A step asks this first and the number only if it refuses, so that a walk that goes on makes no refusal ready.
@@ -85,24 +74,26 @@ fn after(k: u32, at: u32) -> u32
     if next == k { 0 } else { next }
 }
 
-impl Walker {
-    // A walker at position 0, for a shuffle.
-    pub fn start(k: u32, f1: u32, f2: u32) -> Start
-        ensures { λ r. ⌜ Started (triple k f1 f2) r ⌝ }
-    {
-        let number = accept(k, f1, f2);
-        if number != DONE {
-            return Start {
-                number,
-                walker: zeros(),
-            };
-        }
-        Start {
-            number: DONE,
-            walker: Walker { k, f1, f2, at: 0 },
-        }
+// A walker at position 0, for a shuffle.
+#[no_mangle]
+pub extern "C" fn qpp_walker_start(k: u32, f1: u32, f2: u32) -> Start
+    ensures { λ r. ⌜ Started (triple k f1 f2) r ⌝ }
+{
+    let triple = Triple { k, f1, f2 };
+    let number = refusals::accept(triple);
+    if number != DONE {
+        return Start {
+            number,
+            walker: zeros(),
+        };
     }
+    Start {
+        number: DONE,
+        walker: Walker { triple, at: 0 },
+    }
+}
 
+impl Walker {
     // The present address, and the walker moved on. Whether the triple permutes is not asked.
     pub fn step(self) -> Step
         ensures { λ r. ⌜ Stepped self r ⌝ }
@@ -110,21 +101,23 @@ impl Walker {
         if !stands(self) {
             return stopped(standing(self));
         }
-        let t = Triple {
-            k: self.k,
-            f1: self.f1,
-            f2: self.f2,
-        };
-        let address = triples::place(t, self.at as usize);
+        let triple = self.triple;
+        let address = triples::place(triple, self.at as usize);
         Step {
             number: DONE,
             address: address as u32,
             walker: Walker {
-                k: self.k,
-                f1: self.f1,
-                f2: self.f2,
-                at: after(self.k, self.at),
+                triple,
+                at: after(triple.k, self.at),
             },
         }
     }
+}
+
+// A method has no name for C.
+#[no_mangle]
+pub extern "C" fn qpp_walker_step(w: Walker) -> Step
+    ensures { λ r. ⌜ Stepped w r ⌝ }
+{
+    w.step()
 }

@@ -6,7 +6,8 @@ use native.Mathlib.Decide.{decLt}
 use native.Mathlib.Omega.{arith}
 use Rattle.numbers.proofs.Congruences.{cong-eq, cong-sym, cong-same, same-cong, cong-zero, zero-cong, cong-cancel, cong-add, cong-dvd, _⨾_}
 use Rattle.triples.specs.declared.Triple.{Triple}
-use Rattle.triples.specs.Shuffles.{f, Permutes}
+use Rattle.permuting.specs.Formulas.{Permutes}
+use Rattle.triples.specs.Shuffles.{f, quadratic}
 
 -- f before the remainder
 abbrev pub sum : Triple → ℕ → ℕ
@@ -50,7 +51,7 @@ pub record Clash (t : Triple) : Type 0 where
   pub less : d < t .k
   pub product : t .k ∣ d * slope t x d
 
-pub clash : {t : Triple} → Clash t → ¬ Permutes t
+pub clash : {t : Triple} → Clash t → ¬ Permutes (quadratic t)
 clash {t} c permutes =
     let K : ℕ = t .k in
     let same : f t (c .x % t .k) ≡ f t ((c .x + c .d) % t .k) = wrap t (c .x) ∙ agree t (c .x) (c .d) (c .product) ∙ sym (wrap t (c .x + c .d)) in
@@ -59,7 +60,7 @@ clash {t} c permutes =
     let dv : t .k ∣ c .x + c .d - c .x = cong-dvd (c .x) (c .x + c .d) (omega arith) (same-cong (c .x) (c .x + c .d) one) in
     omega (arith, c .some, c .less, le-of-dvd {n = c .x + c .d - c .x} (omega (arith, c .some)) dv)
 
-pub apart : (t : Triple) → ((x d : ℕ) → 0 < d → d < t .k → ¬ (t .k ∣ d * slope t x d)) → Permutes t
+pub apart : (t : Triple) → ((x d : ℕ) → 0 < d → d < t .k → ¬ (t .k ∣ d * slope t x d)) → Permutes (quadratic t)
 apart t h x y lx ly e = go (decLt x y) (decLt y x)
   where
     up : (a b : ℕ) → a < b → b < t .k → f t a ≡ f t b → ⊥

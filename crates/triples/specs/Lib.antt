@@ -1,3 +1,1 @@
 pub mod Shuffles
-pub mod Quick
-pub mod Rules

@@ -1,10 +1,11 @@
--- What a triple means. These are definitions, in the words of the scope.
+-- To be believed: what a triple means, in the words of the scope.
 use mathlib.Core.Path.{_≡_}
 use mathlib.Core.Bool.{cond}
 use Prim.Native.Nat.{ℕ, _+_, _*_, _/_, _%_, _≤_, _<_}
-use mathlib.Core.List.{List}
+use mathlib.Core.List.{List, [], _∷_}
 use lib.Dec.{eqb}
 use lib.ListN.{length, getD}
+use Rattle.permuting.specs.Formulas.{Formula, Permutes}
 use Rattle.triples.specs.declared.Triple.{Triple}
 
 -- The triple of three numbers.
@@ -22,14 +23,14 @@ pub record InRange (t : Triple) : Type 0 where
   pub first : t .f1 < t .k
   pub second : t .f2 < t .k
 
--- f permutes when no two positions share a value.
-abbrev pub Permutes : Triple → Type 0
-Permutes t = (x y : ℕ) → x < t .k → y < t .k → f t x ≡ f t y → x ≡ y
+-- The formula of a triple.
+abbrev pub quadratic : Triple → Formula
+quadratic t = record { length = t .k; coefficients = t .f1 ∷ t .f2 ∷ []; map = f t }
 
 -- A shuffle: an accepted triple.
 pub record Shuffle (t : Triple) : Type 0 where
   pub range : InRange t
-  pub permutes : Permutes t
+  pub permutes : Permutes (quadratic t)
 
 -- The odd form: where K and f1 are even, K/2 is added to both coefficients modulo K; in all other cases it is the pair itself.
 abbrev pub oddForm : Triple → Triple

@@ -1,4 +1,4 @@
--- `period` meets its contract.
+-- Each return is the period by a law: an even candidate, an odd one that serves, or its double.
 use mathlib.Core.Path.{refl}
 use Prim.Native.Nat.{_/_}
 use native.Mathlib.Nat.{div-le-self, le-of-dvd, mul-le-mul, pos-of-dvd-of-pos}
@@ -19,13 +19,13 @@ div-q c = pos-of-dvd-of-pos (c .before .gcd .ensures .left) (omega arith)
 
 returns : tie.Need-returns
 returns c =
-    let t = c .before .before .before .before .args .t in
+    let t = c .before .before .before .before .args .odd in
     let g = c .before .before .gcd in
     (period-even t (g .result) _ (omega arith) (g .ensures) refl (c .if1 .taken), div-le-self (t .k) (g .result))
 
 mul-if2 : tie.Need-mul-if2
 mul-if2 c =
-    let t = c .before .before .before .before .before .args .t in
+    let t = c .before .before .before .before .before .args .odd in
     let g = c .before .before .before .gcd .result in
     omega (arith, mul-le-mul {n₁ = t .f2} {m₁ = t .k / g} {n₂ = 8192} {m₂ = 8192} (omega arith) (omega (arith, div-le-self (t .k) g)))
 
@@ -34,18 +34,18 @@ rem-if2 c = search needs
 
 returns-2 : tie.Need-returns-2
 returns-2 c =
-    let t = c .before .before .before .before .before .before .before .args .t in
+    let t = c .before .before .before .before .before .before .before .args .odd in
     let g = c .before .before .before .before .before .gcd in
     (period-least t (g .result) _ (omega arith) (g .ensures) refl (c .if2 .taken), div-le-self (t .k) (g .result))
 
 mul-result : tie.Need-mul-result
 mul-result c =
-    let t = c .before .before .before .before .before .before .before .args .t in
+    let t = c .before .before .before .before .before .before .before .args .odd in
     omega (arith, div-le-self (t .k) (c .before .before .before .before .before .gcd .result))
 
 returns-3 : tie.Need-returns-3
 returns-3 c =
-    let t = c .before .before .before .before .before .before .before .args .t in
+    let t = c .before .before .before .before .before .before .before .args .odd in
     let g = c .before .before .before .before .before .gcd in
     let p = period-double t (g .result) _ (omega arith) (g .ensures) refl (c .before .before .before .if1 .left) (c .if2 .left) in
     (p, le-of-dvd (omega arith) (p .divides))

@@ -1,18 +1,15 @@
--- `shifts` meets its contract.
+-- What was filled in are the addresses of the odd form without its first coefficient, which are the shifts.
+use borrow.Author.Needs.{needs}
 use Rattle.triples.proofs.Rows.{written-same}
 use Rattle.arp.proofs.Shifting.{without-first}
-use borrow.Author.Needs.{needs}
 use Rattle.arp.proofs.shifts.Statement.{statement}
 use Rattle.arp.proofs.shifts.Tie as tie
 
-fill-requires : tie.Need-fill-requires
-fill-requires c κs = search needs
-
-same-length : tie.Need-same-length
-same-length c = search needs
-
 returns : tie.Need-returns
-returns c = written-same (without-first (c .before .before .before .before .before .args .t)) (c .before .before .fill .ensures)
+returns c =
+    let filled = c .before .before in
+    let entered = filled .before .before .before .before .before in
+    written-same (without-first (entered .args .form .odd)) (filled .fill .ensures)
 
 pub shifts-spec : {M : Type 1} → statement M
-shifts-spec = tie.close (tie.spec fill-requires same-length returns)
+shifts-spec = tie.close (tie.spec (λ c. search needs) (λ c κs. search needs) (λ c. search needs) returns)

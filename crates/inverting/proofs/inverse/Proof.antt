@@ -1,35 +1,53 @@
--- `inverse` meets its contract.
+-- The series of the odd form undoes it; reduced, it is the inverse, and the odd form is the same f.
 use mathlib.Core.Path.{refl}
+use native.Mathlib.Omega.{arith}
 use borrow.Author.Needs.{needs}
-use Rattle.inverting.proofs.Answering.{answer}
+use Rattle.acceptance.proofs.Rule.{odd-unit}
+use Rattle.inverting.proofs.Answering.{answer, invertible, inverted-odd}
 use Rattle.inverting.proofs.Sowing.{zeros}
 use Rattle.inverting.proofs.inverse.Statement.{statement}
 use Rattle.inverting.proofs.inverse.Tie as tie
 
+reciprocal-requires : tie.Need-reciprocal-requires
+reciprocal-requires c κs =
+    let u = odd-unit (c .before .pre) (c .odd-form .ensures) in
+    (u .range .low, u .range .high, u .range .first, u .coprime)
+
 series-requires : tie.Need-series-requires
-series-requires c κs = (search needs, search needs, search needs, zeros 14, refl)
+series-requires c κs =
+    let made = c .before .before in
+    let r = odd-unit (made .before .pre) (made .odd-form .ensures) .range in
+    (r .high, r .second, c .before .reciprocal .ensures .below, zeros 14, refl)
 
 reduce-requires : tie.Need-reduce-requires
-reduce-requires c κs = search needs
-
-degree-requires : tie.Need-degree-requires
-degree-requires c κs = search needs
-
-without-constant-requires : tie.Need-without-constant-requires
-without-constant-requires c κs = search needs
-
-cast-t14 : tie.Need-cast-t14
-cast-t14 c = search needs
+reduce-requires c κs =
+    let made = c .before .before .before .before in
+    let r = odd-unit (made .before .pre) (made .odd-form .ensures) .range in
+    let s = c .before .series .ensures in
+    (r .low, r .high, s .1, omega (arith, s .0 .free, r .low), s .0 .at-most, s .2, s .3)
 
 returns : tie.Need-returns
 returns c =
-    let start = c .before .before .before .before .before .before .before .before in
-    let series = c .before .before .before .before .before .before .series in
-    let reduce = c .before .before .before .before .reduce in
-    let degree = c .before .before .degree in
-    answer (start .args .k) (start .args .f1) (start .args .f2) (start .args .r) (degree .result) _ (reduce .last .1 .1 .0) _ (start .pre) (series .ensures .0) (reduce .ensures .0)
-    (degree .ensures .0) (degree .ensures .1) (reduce .ensures .2) (c .without-constant .ensures)
+    let found = c .before .before in
+    let reduced = found .before .before in
+    let made = reduced .before .before in
+    let turned = made .before .before in
+    let odd = turned .before in
+    let s = odd .before .pre in
+    inverted-odd s (odd .odd-form .ensures)
+    (answer (odd .odd-form .result) (turned .reciprocal .result) (found .degree .result) _ (reduced .reduce .last .1 .1 .0) _
+    (invertible s (odd .odd-form .ensures) (turned .reciprocal .ensures)) (made .series .ensures .0) (reduced .reduce .ensures .0)
+    (found .degree .ensures .0) (found .degree .ensures .1) (reduced .reduce .ensures .2) (c .without-constant .ensures))
 
 pub inverse-spec : {M : Type 1} → statement M
 inverse-spec =
-    tie.close (tie.spec series-requires reduce-requires degree-requires without-constant-requires cast-t14 returns)
+    tie.close
+    (tie.spec
+    (λ c κs. search needs)
+    reciprocal-requires
+    series-requires
+    reduce-requires
+    (λ c κs. search needs)
+    (λ c κs. search needs)
+    (λ c. search needs)
+    returns)

@@ -1,44 +1,32 @@
--- Each return is the row of the table that its test leads to.
-use mathlib.Core.Path.{refl}
-use mathlib.Core.Logic.{inl, inr}
-use mathlib.Core.List.{List, [], _∷_}
-use Prim.Native.Nat.{ℕ}
+-- A refusal of the triple stays one; a shuffle comes to the lengths.
 use native.Mathlib.Omega.{arith}
-use Rattle.triples.specs.Shuffles.{triple}
-use Rattle.qpp.specs.Refusals.{Test, no-block, no-scratch}
-use Rattle.qpp.proofs.Judging.{accepted, stays-refused, shuffle-passes}
 use borrow.Author.Needs.{needs}
+use Rattle.permuting.specs.Blocks.{marks-of}
+use Rattle.triples.specs.Shuffles.{quadratic}
+use Rattle.refusals.specs.Refusals.{shuffle-tests, block-tests}
+use Rattle.refusals.proofs.Tests.{stays, none, passes}
+use Rattle.refusals.proofs.Acceptance.{accepted}
 use Rattle.qpp.proofs.blocks.movable.Statement.{statement}
 use Rattle.qpp.proofs.blocks.movable.Tie as tie
 
-abbrev tests : ℕ → ℕ → ℕ → ℕ → ℕ → List Test
-tests k f1 f2 block scratch = no-block (triple k f1 f2) block ∷ no-scratch (triple k f1 f2) scratch ∷ []
-
-accept-requires : tie.Need-accept-requires
-accept-requires c κs = search needs
-
 returns : tie.Need-returns
-returns c = let a = c .before .before .args in stays-refused (tests (a .k) (a .f1) (a .f2) (a .block) (a .scratch)) (c .before .accept .ensures) (c .if1 .taken)
+returns c =
+    let a = c .before .before .args in
+    record { first = stays (shuffle-tests (quadratic (a .t))) (block-tests (a .t .k) (marks-of (a .t .k)) (a .block) (a .scratch)) (c .before .accept .ensures) (c .if1 .taken) }
 
-add-marks : tie.Need-add-marks
-add-marks c = search needs
+sizes-requires : tie.Need-sizes-requires
+sizes-requires c κs = accepted (c .before .accept .ensures) (omega arith) .range .high
 
 returns-2 : tie.Need-returns-2
 returns-2 c =
-    let a = c .before .before .before .args in
-    shuffle-passes (tests (a .k) (a .f1) (a .f2) (a .block) (a .scratch)) (accepted (c .before .before .accept .ensures) (omega arith)) (inl (refl, λ e. omega arith))
-
-returns-3 : tie.Need-returns-3
-returns-3 c =
-    let a = c .before .before .before .before .args in
-    shuffle-passes (tests (a .k) (a .f1) (a .f2) (a .block) (a .scratch)) (accepted (c .before .before .before .accept .ensures) (omega arith))
-    (inr ((λ ne. ne (omega arith)), inl (refl, omega arith)))
-
-returns-4 : tie.Need-returns-4
-returns-4 c =
-    let a = c .before .before .before .before .args in
-    shuffle-passes (tests (a .k) (a .f1) (a .f2) (a .block) (a .scratch)) (accepted (c .before .before .before .accept .ensures) (omega arith))
-    (inr ((λ ne. ne (omega arith)), inr ((λ h. omega arith), refl)))
+    let judged = c .before .before in
+    let a = judged .before .args in
+    record {
+      first =
+          passes (shuffle-tests (quadratic (a .t))) (block-tests (a .t .k) (marks-of (a .t .k)) (a .block) (a .scratch)) (c .sizes .result)
+          (none (shuffle-tests (quadratic (a .t))) tt (judged .accept .ensures) (omega arith))
+          (c .sizes .ensures);
+    }
 
 pub movable-spec : {M : Type 1} → statement M
-movable-spec = tie.close (tie.spec accept-requires returns add-marks returns-2 returns-3 returns-4)
+movable-spec = tie.close (tie.spec (λ c κs. search needs) returns sizes-requires returns-2)

@@ -1,35 +1,25 @@
--- `standing` meets its contract.
-use mathlib.Core.Path.{refl}
-use mathlib.Core.Logic.{inl, inr}
-use mathlib.Core.List.{[], _∷_}
+-- A refusal of the range stays one; a triple in range comes to the position.
 use native.Mathlib.Omega.{arith}
 use borrow.Author.Needs.{needs}
-use Rattle.qpp.specs.Refusals.{no-position}
-use Rattle.qpp.specs.Walking.{triple-of}
-use Rattle.qpp.proofs.Judging.{ranged, range-stays, range-passes}
+use Rattle.triples.specs.Shuffles.{quadratic}
+use Rattle.refusals.specs.Refusals.{range-tests}
+use Rattle.refusals.proofs.Tests.{stays, none, passes}
+use Rattle.qpp.specs.Walkers.{own-tests}
 use Rattle.qpp.proofs.walker.standing.Statement.{statement}
 use Rattle.qpp.proofs.walker.standing.Tie as tie
-
-range-requires : tie.Need-range-requires
-range-requires c κs = search needs
 
 returns : tie.Need-returns
 returns c =
     let w = c .before .before .args .w in
-    range-stays (no-position (triple-of w) (w .at) ∷ []) (c .before .range .ensures) (c .if1 .taken)
+    stays (range-tests (quadratic (w .triple))) (own-tests w) (c .before .range .ensures) (c .if1 .taken)
 
 returns-2 : tie.Need-returns-2
 returns-2 c =
-    let w = c .before .before .before .before .args .w in
-    range-passes (no-position (triple-of w) (w .at) ∷ []) (ranged (c .before .before .before .range .ensures) (omega arith)) (inl (refl, omega arith))
-
-returns-3 : tie.Need-returns-3
-returns-3 c =
-    let w = c .before .before .before .before .args .w in
-    range-passes
-    (no-position (triple-of w) (w .at) ∷ [])
-    (ranged (c .before .before .before .range .ensures) (omega arith))
-    (inr ((λ h. omega arith), refl))
+    let tested = c .before .before in
+    let w = tested .before .args .w in
+    passes (range-tests (quadratic (w .triple))) (own-tests w) (c .position .result)
+    (none (range-tests (quadratic (w .triple))) tt (tested .range .ensures) (omega arith))
+    (c .position .ensures)
 
 pub standing-spec : {M : Type 1} → statement M
-standing-spec = tie.close (tie.spec range-requires returns returns-2 returns-3)
+standing-spec = tie.close (tie.spec (λ c κs. search needs) returns (λ c κs. search needs) returns-2)

@@ -1,63 +1,65 @@
--- `step` meets its contract.
-use borrow.Author.Tests.{not-true, not-false}
+-- Refused as `standing` says; otherwise the place is f at the position, and `after` gives the next.
 use mathlib.Core.Path.{refl, sym, subst, ap, _∙_}
 use mathlib.Core.Bool.{true≢false}
-use Prim.Native.Nat.{ℕ}
-use Rattle.qpp.specs.Refusals.{First}
-use Rattle.qpp.specs.Walking.{walker, triple-of, step-tests}
-use Rattle.qpp.proofs.Answers.{answered, refusing}
-use Rattle.qpp.proofs.Judging.{positioned}
+use mathlib.Core.List.{_++_}
+use Prim.Native.Nat.{ℕ, _<_}
+use borrow.Author.Tests.{not-true, not-false}
 use borrow.Author.Needs.{needs}
+use Rattle.triples.specs.Shuffles.{quadratic}
+use Rattle.refusals.specs.Refusals.{First, range-tests}
+use Rattle.refusals.proofs.Tests.{splits}
+use Rattle.refusals.proofs.Answers.{refusing, answering}
+use Rattle.refusals.proofs.Acceptance.{ranged}
+use Rattle.refusals.proofs.Lengths.{placed}
+use Rattle.qpp.specs.declared.walker.Walker.{Walker}
+use Rattle.qpp.specs.Walkers.{walker, own-tests, step-tests}
 use Rattle.qpp.proofs.walker.Walker.step.Statement.{statement}
 use Rattle.qpp.proofs.walker.Walker.step.Tie as tie
 
-stands-requires : tie.Need-stands-requires
-stands-requires c κs = search needs
-
-standing-requires : tie.Need-standing-requires
-standing-requires c κs = search needs
-
-stopped-requires : tie.Need-stopped-requires
-stopped-requires c κs = search needs
+-- the tests gave 0
+first : (c : tie.After-struct-known) → First (step-tests (c .before .before .before .before .args .self)) 0
+first c =
+    let entered = c .before .before in
+    let b = entered .before .stands in
+    b .ensures .0 (not-false (b .result) (entered .if1 .left))
 
 returns : tie.Need-returns
 returns c =
     let s = c .stopped .ensures in
     let n = c .before .standing in
-    let b = c .before .before .before .stands in
-    let w = c .before .before .before .before .args .self in
-    refusing (s .0) (n .ensures) (λ z. true≢false (sym (b .ensures .1 (subst (λ (m : ℕ). First (step-tests w) m) z (n .ensures))) ∙ not-true (b .result) (c .before .before .if1 .taken))) (s .1, s .2)
+    let asked = c .before .before .before in
+    let w = asked .before .args .self in
+    refusing (s .0) (n .ensures)
+    (λ z.
+    true≢false (sym (asked .stands .ensures .1 (subst (λ (m : ℕ). First (step-tests w) m) z (n .ensures))) ∙ not-true (asked .stands .result) (c .before .before .if1 .taken)))
+    (s .1, s .2)
 
-cast-place : tie.Need-cast-place
-cast-place c = search needs
+below : (w : Walker) → First (step-tests w) 0 → w .at < w .triple .k
+below w first = placed (splits (range-tests (quadratic (w .triple))) (own-tests w) tt first refl) refl
 
 place-requires : tie.Need-place-requires
 place-requires c κs =
-    let b = c .before .before .stands in positioned (b .ensures .0 (not-false (b .result) (c .before .if1 .left))) refl
-
-cast-t8 : tie.Need-cast-t8
-cast-t8 c = search needs
+    let w = c .before .before .before .before .args .self in (ranged (own-tests w) (first c) refl, below w (first c))
 
 after-requires : tie.Need-after-requires
-after-requires c κs =
-    let b = c .before .before .before .stands in positioned (b .ensures .0 (not-false (b .result) (c .before .before .if1 .left))) refl .1
+after-requires c κs = let known = c .before in below (known .before .before .before .before .args .self) (first known)
 
 returns-2 : tie.Need-returns-2
 returns-2 c =
-    let w = c .before .before .before .before .before .args .self in
-    let b = c .before .before .before .before .stands in
-    answered (b .ensures .0 (not-false (b .result) (c .before .before .before .if1 .left))) (c .before .place .ensures .0, ap (λ (n : ℕ). walker (triple-of w) n) (c .after .ensures))
+    let known = c .before .before in
+    let w = known .before .before .before .before .args .self in
+    answering (first known) refl (c .before .place .ensures .0, ap (λ (n : ℕ). walker (w .triple) n) (c .after .ensures))
 
 pub step-spec : {M : Type 1} → statement M
 step-spec =
     tie.close
     (tie.spec
-    stands-requires
-    standing-requires
-    stopped-requires
+    (λ c κs. search needs)
+    (λ c κs. search needs)
+    (λ c κs. search needs)
     returns
-    cast-place
+    (λ c. search needs)
     place-requires
-    cast-t8
+    (λ c. search needs)
     after-requires
     returns-2)

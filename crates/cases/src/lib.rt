@@ -1,0 +1,1 @@
+// The proved cases: definitions and their proof, and no code.

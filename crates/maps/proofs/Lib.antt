@@ -1,0 +1,2 @@
+-- `Scaling`: why products alone find a place.
+pub mod Scaling

@@ -1,0 +1,66 @@
+-- No second answer fits: one law for each call.
+use mathlib.Core.Path.{_≡_, sym, _∙_}
+use mathlib.Core.List.{List, []}
+use Prim.Native.Nat.{ℕ}
+use Rattle.numbers.proofs.Congruences.{reciprocal-one}
+use Rattle.polynomials.proofs.Answering.{inverted-one}
+use Rattle.arp.proofs.Shifting.{arp-one}
+use Rattle.spreading.proofs.Distances.{spread-one}
+use Rattle.triples.proofs.Rows.{written-one}
+use Rattle.permuting.specs.Formulas.{Formula}
+use Rattle.triples.specs.declared.Triple.{Triple}
+use Rattle.triples.specs.Shuffles.{oddForm}
+use Rattle.qpp.specs.declared.shuffles.Value.{Value}
+use Rattle.qpp.specs.declared.inverses.InverseForm.{InverseForm}
+use Rattle.qpp.specs.declared.lists.ArpForm.{ArpForm}
+use Rattle.qpp.specs.declared.walker.Walker.{Walker}
+use Rattle.qpp.specs.declared.walker.Start.{Start}
+use Rattle.qpp.specs.declared.walker.Step.{Step}
+use Rattle.qpp.specs.Walkers.{Started, Stepped}
+use Rattle.qpp.specs.Promises.{Address, ReciprocalOf, AddressList, ArpOf, SpreadOf, InverseOf}
+use Rattle.refusals.specs.Refusals.{Acceptance, shuffle-tests}
+use Rattle.refusals.proofs.Tests.{first-one}
+use Rattle.refusals.proofs.Answers.{answer-one}
+
+pub acceptance-one : (φ : Formula) {n m : ℕ} → Acceptance φ n → Acceptance φ m → n ≡ m
+acceptance-one φ = first-one (shuffle-tests φ)
+
+value-same : {r s : Value} → (r .number ≡ s .number) × (r .value ≡ s .value) → r ≡ s
+value-same e = λ i. record { number = e .0 i; value = e .1 i }
+
+pub address-one : (φ : Formula) {x : ℕ} {r s : Value} → Address φ x r → Address φ x s → r ≡ s
+address-one φ a b = value-same (answer-one (λ p q. p ∙ sym q) (λ p q. p ∙ sym q) a b)
+
+pub reciprocal-of-one : {t : Triple} {r s : Value} → ReciprocalOf t r → ReciprocalOf t s → r ≡ s
+reciprocal-of-one {t} {r} {s} a b =
+    value-same (answer-one (reciprocal-one (t .k) (oddForm t .f1) (r .value) (s .value)) (λ p q. p ∙ sym q) a b)
+
+pub started-one : {t : Triple} {r s : Start} → Started t r → Started t s → r ≡ s
+started-one {t} {r} {s} a b =
+    let e = answer-one (λ p q. p ∙ sym q) (λ p q. p ∙ sym q) a b in λ i. record { number = e .0 i; walker = e .1 i }
+
+pub stepped-one : {w : Walker} {r s : Step} → Stepped w r → Stepped w s → r ≡ s
+stepped-one {w} {r} {s} a b =
+    let e = answer-one both both a b in λ i. record { number = e .0 i; address = e .1 .0 i; walker = e .1 .1 i }
+  where
+    both : {a : ℕ} {v : Walker} → (r .address ≡ a) × (r .walker ≡ v) → (s .address ≡ a) × (s .walker ≡ v)
+        → (r .address ≡ s .address) × (r .walker ≡ s .walker)
+    both p q = (p .0 ∙ sym (q .0), p .1 ∙ sym (q .1))
+
+pub address-list-one : (φ : Formula) {before : List ℕ} {n m : ℕ} {a b : List ℕ} → AddressList φ before n a → AddressList φ before m b → (n ≡ m) × (a ≡ b)
+address-list-one φ = answer-one written-one (λ p q. p ∙ sym q)
+
+pub arp-of-one : {t : Triple} {before : List ℕ} {r s : ArpForm} {a b : List ℕ} → ArpOf t before r a → ArpOf t before s b → (r ≡ s) × (a ≡ b)
+arp-of-one {t} {before} {r} {s} {a} {b} x y =
+    let e = answer-one arp-one nothing x y in ((λ i. record { number = e .0 i; p = e .1 .0 i; q = e .1 .1 i }), e .1 .2)
+  where
+    nothing : (r .p ≡ 0) × (r .q ≡ 0) × (a ≡ before) → (s .p ≡ 0) × (s .q ≡ 0) × (b ≡ before) → (r .p ≡ s .p) × (r .q ≡ s .q) × (a ≡ b)
+    nothing m n = (m .0 ∙ sym (n .0), m .1 ∙ sym (n .1), m .2 ∙ sym (n .2))
+
+pub spread-of-one : (φ : Formula) {r s : Value} → SpreadOf φ r → SpreadOf φ s → r ≡ s
+spread-of-one φ a b = value-same (answer-one spread-one (λ p q. p ∙ sym q) a b)
+
+pub inverse-of-one : {t : Triple} {r s : InverseForm} → InverseOf t r → InverseOf t s → r ≡ s
+inverse-of-one {t} {r} {s} x y =
+    let e = answer-one inverted-one (λ p q. (p .0 ∙ sym (q .0), p .1 ∙ sym (q .1))) x y in
+    λ i. record { number = e .0 i; degree = e .1 .0 i; a = e .1 .1 i }

@@ -1,0 +1,6 @@
+-- `Tests`: any list of tests. `Answers`: the ways to answer, and that one answer fits. `Acceptance`: what number 0 means.
+-- `Lengths`: what it says of what was lent.
+pub mod Tests
+pub mod Answers
+pub mod Acceptance
+pub mod Lengths
