@@ -1,6 +1,10 @@
--- `Dividing`: divisors, Euclid's algorithm and Bezout. `Congruences`: laws of congruence. `Absorbing`: when every prime of one number
--- divides another. `Primes`: that this says so.
-pub mod Dividing
+-- A file has the laws of the definitions in the file of its name in specs/.
+-- Beside them, `Divisors`: Euclid's algorithm and Bezout. `Primes`: every number above 1 has a prime divisor, and so absorption is what it
+-- says of primes. `Computation`: tests that are computed.
+pub mod Divisors
 pub mod Congruences
-pub mod Absorbing
+pub mod Reciprocals
+pub mod Absorption
 pub mod Primes
+pub mod Lists
+pub mod Computation

@@ -5,7 +5,8 @@ use Prim.Native.Nat.{ℕ, zero, suc, _+_, _-_, _<_, _∣_}
 use native.Mathlib.Nat.{dvd-refl, dvd-trans, le-of-dvd, pos-of-dvd-of-pos}
 use native.Mathlib.Decide.{ℕ-discrete, decDvd}
 use native.Mathlib.Omega.{arith}
-use Rattle.numbers.specs.Divisors.{Prime, Absorbed}
+use Rattle.numbers.specs.Divisors.{Prime}
+use Rattle.numbers.specs.Absorption.{Absorbed}
 
 -- no number from 2 on and below d divides n
 abbrev NoneBelow : ℕ → ℕ → Type 0

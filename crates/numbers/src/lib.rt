@@ -1,8 +1,10 @@
 // Numbers: the greatest common divisor and what rests on it. Nothing here knows of a shuffle.
 ghost use mathlib.Core.Path.{_≡_};
 ghost use Prim.Native.Nat.{_*_, _%_, _≤_, _<_};
-ghost use Rattle.numbers.specs.Divisors.{IsGcd, Coprime, Absorbed, Decides};
-ghost use Rattle.numbers.specs.Congruence.{Reciprocal};
+ghost use Rattle.numbers.specs.Divisors.{IsGcd, Coprime};
+ghost use Rattle.numbers.specs.Reciprocals.{Reciprocal};
+ghost use Rattle.numbers.specs.Decision.{Decides};
+ghost use Rattle.numbers.specs.Absorption.{Absorbed};
 
 // The greatest common divisor of a and b; of 0 and 0 it is 0.
 pub fn gcd(a: u32, b: u32) -> u32

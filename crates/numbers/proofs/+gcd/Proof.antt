@@ -1,10 +1,11 @@
--- `gcd` meets its contract: the second argument falls.
+-- The measure is the second argument: it becomes a remainder by itself, which is less, and at 0 the call ends. What the inner call answers
+-- is the answer (`gcd-step`), and at 0 it is a (`gcd-end`).
 use Prim.Native.Nat.{ℕ, _<_}
 use native.Mathlib.Nat.{mod-lt}
 use native.Mathlib.Omega.{arith}
 use borrow.Fn.Kinds.{In}
 use borrow.Fn.PlainCycle.{Measures, is, falls, and}
-use Rattle.numbers.proofs.Dividing.{gcd-end, gcd-step}
+use Rattle.numbers.proofs.Divisors.{gcd-end, gcd-step}
 use Rattle.numbers.proofs.gcd.Reads as gcd
 use Rattle.numbers.proofs.gcd.Kinds as gcd-kinds
 use Rattle.numbers.proofs.+gcd.Lts-gcd as gcd-lts

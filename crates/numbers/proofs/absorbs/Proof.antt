@@ -1,21 +1,9 @@
--- `absorbs` meets its contract, by four squares.
+-- The answer rests on `squares-decide`: the last of four squares in a row, f to the sixteenth, is 0 modulo k exactly where f absorbs k.
 use native.Mathlib.Omega.{arith}
 use borrow.Author.Needs.{needs}
-use Rattle.numbers.proofs.Absorbing.{squares-decide}
+use Rattle.numbers.proofs.Absorption.{squares-decide}
 use Rattle.numbers.proofs.absorbs.Statement.{statement}
 use Rattle.numbers.proofs.absorbs.Tie as tie
-
-times-requires : tie.Need-times-requires
-times-requires c κs = search needs
-
-times-requires-2 : tie.Need-times-requires-2
-times-requires-2 c κs = search needs
-
-times-requires-3 : tie.Need-times-requires-3
-times-requires-3 c κs = search needs
-
-times-requires-4 : tie.Need-times-requires-4
-times-requires-4 c κs = search needs
 
 returns : tie.Need-returns
 returns c =
@@ -23,4 +11,4 @@ returns c =
     (c .times4 .ensures .1)
 
 pub absorbs-spec : {M : Type 1} → statement M
-absorbs-spec = tie.close (tie.spec times-requires times-requires-2 times-requires-3 times-requires-4 returns)
+absorbs-spec = tie.close (tie.spec (λ c κs. search needs) (λ c κs. search needs) (λ c κs. search needs) (λ c κs. search needs) returns)

@@ -1,9 +1,9 @@
--- `reciprocal` meets its contract. The lower remainder falls.
-use Prim.Native.Nat.{ℕ, _-_, _*_, _/_, _≤_}
-use native.Mathlib.Nat.{mod-lt, mul-le-mul, div-le-self}
+-- The invariant, `Multipliers`: each of two remainders in a row is its multiplier times a, up to multiples of k. The measure is the lower
+-- remainder, and it falls, since a remainder is below what it is taken by; once it is 0, the upper one is 1.
+use native.Mathlib.Nat.{mod-lt}
 use native.Mathlib.Omega.{arith}
 use borrow.Author.Needs.{needs}
-use Rattle.numbers.proofs.Congruences.{Multipliers, multipliers-start, multipliers-step, multipliers-end}
+use Rattle.numbers.proofs.Reciprocals.{Multipliers, multipliers-start, multipliers-step, multipliers-room, multipliers-end}
 use Rattle.numbers.proofs.reciprocal.Statement.{statement}
 use Rattle.numbers.proofs.reciprocal.Tie as tie
 
@@ -13,29 +13,14 @@ Inv-loop k a upper₀ upper-by₀ lower₀ lower-by₀ upper upper-by lower lowe
 abbrev μ-loop : tie.MeasureT-loop
 μ-loop k a upper₀ upper-by₀ lower₀ lower-by₀ upper upper-by lower lower-by = lower
 
-term-small : (u l k b : ℕ) → u ≤ 8192 → k ≤ 8192 → u / l * (k - b) ≤ 8192 * 8192
-term-small u l k b hu hk = mul-le-mul {n₁ = u / l} {m₁ = k - b} {n₂ = 8192} {m₂ = 8192} (omega (arith, div-le-self u l)) (omega arith)
-
 loop-holds : tie.Need-loop-holds Inv-loop μ-loop
 loop-holds c = multipliers-start _ _ (omega arith) (omega arith) (c .pre .3)
 
-div-quotient : tie.Need-div-quotient Inv-loop μ-loop
-div-quotient c = search needs
-
-rem-rest : tie.Need-rem-rest Inv-loop μ-loop
-rem-rest c = search needs
-
-sub-rest-by : tie.Need-sub-rest-by Inv-loop μ-loop
-sub-rest-by c = search needs
-
 mul-rest-by : tie.Need-mul-rest-by Inv-loop μ-loop
-mul-rest-by c = let l = c .before .loop in omega (arith, term-small l.upper l.lower (c .before .before .args .k) l.lower-by (omega arith) (omega arith))
+mul-rest-by c = omega (arith, multipliers-room (c .before .loop .inv) (omega arith))
 
 add-rest-by : tie.Need-add-rest-by Inv-loop μ-loop
-add-rest-by c = let l = c .before .loop in omega (arith, term-small l.upper l.lower (c .before .before .args .k) l.lower-by (omega arith) (omega arith))
-
-rem-rest-by : tie.Need-rem-rest-by Inv-loop μ-loop
-rem-rest-by c = search needs
+add-rest-by c = omega (arith, multipliers-room (c .before .loop .inv) (omega arith))
 
 loop-less : tie.Need-loop-less Inv-loop μ-loop
 loop-less c = mod-lt (c .before .loop .upper) (omega arith)
@@ -49,4 +34,5 @@ returns c = multipliers-end _ _ _ _ _ _ (omega arith) (c .before .loop .inv) (om
 pub reciprocal-spec : {M : Type 1} → statement M
 reciprocal-spec =
     tie.close
-    (tie.spec Inv-loop μ-loop loop-holds div-quotient rem-rest sub-rest-by mul-rest-by add-rest-by rem-rest-by loop-less loop-again returns)
+    (tie.spec Inv-loop μ-loop loop-holds (λ c. search needs) (λ c. search needs) (λ c. search needs) mul-rest-by add-rest-by
+    (λ c. search needs) loop-less loop-again returns)

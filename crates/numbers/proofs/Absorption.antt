@@ -1,14 +1,16 @@
 -- When every prime of one number divides another: by a power, by squares, and the part of a number that is left when it fails.
-use mathlib.Core.Path.{_≡_, sym, ap, _∙_, subst}
+use mathlib.Core.Path.{_≡_, sym, ap, _∙_, subst, subst₂}
 use Prim.Native.Nat.{ℕ, zero, suc, _+_, _*_, _/_, _%_, _^_, _≤_, _<_, _∣_}
-use native.Mathlib.Nat.{dvd-refl, dvd-zero, dvd-trans, dvd-mod-iff, dvd-add-iff-left, dvd-mul-right-of-dvd, eq-one-of-dvd-one, one-dvd, mul-comm, mul-assoc, mul-dvd-mul, pow-suc, pow-zero, div-mul-cancel, div-lt-self, mul-le-mul-right, mod-eq-of-lt, mod-eq-zero-of-dvd}
+use native.Mathlib.Nat.{dvd-refl, dvd-zero, dvd-trans, dvd-mod-iff, dvd-add-iff-left, dvd-mul-right-of-dvd, eq-one-of-dvd-one, one-dvd, mul-comm, mul-assoc, mul-dvd-mul, pow-suc, pow-zero, div-mul-cancel, mul-le-mul-right, mod-eq-of-lt, mod-eq-zero-of-dvd}
 use native.Mathlib.Decide.{ℕ-discrete}
 use native.Mathlib.Omega.{arith}
 use lib.Pow.{pow-add}
 use lib.Dec.{eqb}
 use borrow.Author.Tests.{eqb-true, eqb-false}
-use Rattle.numbers.specs.Divisors.{IsGcd, Coprime, Absorbed, Decides}
-use Rattle.numbers.proofs.Dividing.{dvd-make, gcd-of, gcd-one, euclid, coprime-dvd, factors-pos}
+use Rattle.numbers.specs.Divisors.{IsGcd, Coprime}
+use Rattle.numbers.specs.Decision.{Decides}
+use Rattle.numbers.specs.Absorption.{Absorbed}
+use Rattle.numbers.proofs.Divisors.{dvd-make, gcd-of, gcd-one, euclid, coprime-dvd, factors-pos}
 use Rattle.numbers.proofs.Congruences.{cong-mod, cong-sym, cong-pow, cong-zero, zero-cong, _⨾_, cong-eq, pow-times}
 
 -- ---- by a power
@@ -19,33 +21,38 @@ absorbed-zero k d p co = co d (dvd-refl d) (dvd-zero d)
 pub absorbed-dvd : {k f : ℕ} (d : ℕ) → d ∣ k → Absorbed k f → Absorbed d f
 absorbed-dvd d h ab e p co = ab e (dvd-trans e p h) co
 
--- k at most 2 to the n holds no prime more than n times
-pub absorbed-power : (n k f : ℕ) → 0 < k → k ≤ 2 ^ n → Absorbed k f → k ∣ f ^ n
-absorbed-power zero k f pos le ab =
-    subst (λ (m : ℕ). k ∣ m) (sym (pow-zero f)) (dvd-make k 1 (omega (arith, subst (λ (m : ℕ). k ≤ m) (pow-zero 2) le)))
-absorbed-power (suc n) k f pos le ab = go (gcd-of k f pos) (λ h. absorbed-power n h f)
+-- what holds of k if it shares nothing with f, and otherwise comes of k divided by what they share, which is half of k at most, holds of every
+-- k up to 2 to the n
+by-shared : (f : ℕ) (P : ℕ → ℕ → Type 0) → ((n k : ℕ) → Coprime k f → P n k) → ((n k g : ℕ) → IsGcd k f g → P n (k / g) → P (suc n) k)
+    → (n k : ℕ) → 0 < k → k ≤ 2 ^ n → P n k
+by-shared f P end step zero k pos le = end 0 k (λ d p q. eq-one-of-dvd-one (subst (λ (m : ℕ). d ∣ m) (omega (arith, pow-zero 2)) p))
+by-shared f P end step (suc n) k pos le = go (gcd-of k f pos) (by-shared f P end step n)
   where
-    go : (g : ℕ) × IsGcd k f g → ((h : ℕ) → 0 < h → h ≤ 2 ^ n → Absorbed h f → h ∣ f ^ n) → k ∣ f ^ suc n
+    go : (g : ℕ) × IsGcd k f g → ((h : ℕ) → 0 < h → h ≤ 2 ^ n → P n h) → P (suc n) k
     go (g, is) below = split (ℕ-discrete g 1)
       where
-        whole : k ≡ k / g * g
-        whole = sym (div-mul-cancel g (is .left))
-
         parts : (0 < k / g) × (0 < g)
-        parts = factors-pos k (k / g) g pos whole
+        parts = factors-pos k (k / g) g pos (sym (div-mul-cancel g (is .left)))
 
-        split : Dec (g ≡ 1) → k ∣ f ^ suc n
-        split (yes e) =
-            let one : k ≡ 1 = ab k (dvd-refl k) (gcd-one is e) in subst (λ (m : ℕ). m ∣ f ^ suc n) (sym one) (one-dvd (f ^ suc n))
+        split : Dec (g ≡ 1) → P (suc n) k
+        split (yes e) = end (suc n) k (gcd-one is e)
         split (no e) =
             let two : 2 ≤ g = omega (arith, parts) in
-            let half : k / g * 2 ≤ 2 ^ n * 2 = omega (arith, pow-suc 2 n, whole, mul-le (k / g) two) in
-            subst (λ (m : ℕ). m ∣ f ^ suc n) (sym whole)
-            (subst (λ (m : ℕ). k / g * g ∣ m) (sym (pow-suc f n))
-            (mul-dvd-mul (k / g) g (below (k / g) (parts .0) (omega arith) (absorbed-dvd (k / g) (dvd-make (k / g) g whole) ab)) (is .right)))
-          where
-            mul-le : (a : ℕ) {b : ℕ} → 2 ≤ b → a * 2 ≤ a * b
-            mul-le a {b} h = omega (arith, mul-le-mul-right a h)
+            let twice = mul-le-mul-right (k / g) two in
+            step n k g is (below (k / g) (parts .0) (omega (arith, pow-suc 2 n, div-mul-cancel g (is .left), twice)))
+
+-- k at most 2 to the n holds no prime more than n times
+pub absorbed-power : (n k f : ℕ) → 0 < k → k ≤ 2 ^ n → Absorbed k f → k ∣ f ^ n
+absorbed-power n k f = by-shared f (λ n k. Absorbed k f → k ∣ f ^ n) end step n k
+  where
+    end : (n k : ℕ) → Coprime k f → Absorbed k f → k ∣ f ^ n
+    end n k co ab = subst (λ (m : ℕ). m ∣ f ^ n) (sym (ab k (dvd-refl k) co)) (one-dvd (f ^ n))
+
+    step : (n k g : ℕ) → IsGcd k f g → (Absorbed (k / g) f → k / g ∣ f ^ n) → Absorbed k f → k ∣ f ^ suc n
+    step n k g is below ab =
+        let whole : k / g * g ≡ k = div-mul-cancel g (is .left) in
+        subst₂ (λ (a b : ℕ). a ∣ b) whole (sym (pow-suc f n))
+        (mul-dvd-mul (k / g) g (below (absorbed-dvd (k / g) (dvd-make (k / g) g (sym whole)) ab)) (is .right))
 
 -- the other way round, at any exponent
 pub power-absorbed : (n k f : ℕ) → k ∣ f ^ n → Absorbed k f
@@ -105,9 +112,8 @@ pub record Rest (k f r : ℕ) : Type 0 where
   pub coprime : Coprime r f
   pub absorbed : Absorbed other f
 
-rest-end : (k f g : ℕ) → IsGcd k f g → g ≡ 1 → Rest k f k
-rest-end k f g h e =
-    record { other = 1; whole = omega arith; coprime = gcd-one h e; absorbed = λ d p co. eq-one-of-dvd-one p }
+rest-end : (k f : ℕ) → Coprime k f → Rest k f k
+rest-end k f co = record { other = 1; whole = omega arith; coprime = co; absorbed = λ d p _. eq-one-of-dvd-one p }
 
 rest-step : (k f g r : ℕ) → IsGcd k f g → Rest (k / g) f r → Rest k f r
 rest-step k f g r h t =
@@ -121,20 +127,11 @@ rest-step k f g r h t =
           co;
     }
 
-rest-below : (n k f : ℕ) → 0 < k → k ≤ n → (r : ℕ) × Rest k f r
-rest-below zero k f pos le = absurd (omega arith)
-rest-below (suc n) k f pos le = go (gcd-of k f pos) (λ h. rest-below n h f)
-  where
-    go : (g : ℕ) × IsGcd k f g → ((h : ℕ) → 0 < h → h ≤ n → (r : ℕ) × Rest h f r) → (r : ℕ) × Rest k f r
-    go (g, is) below = split (ℕ-discrete g 1)
-      where
-        parts : (0 < k / g) × (0 < g)
-        parts = factors-pos k (k / g) g pos (sym (div-mul-cancel g (is .left)))
-
-        split : Dec (g ≡ 1) → (r : ℕ) × Rest k f r
-        split (yes e) = (k, rest-end k f g is e)
-        split (no e) =
-            let t = below (k / g) (parts .0) (omega (arith, div-lt-self {k = g} pos (omega (arith, parts)))) in (t .0, rest-step k f g (t .0) is (t .1))
-
 pub rest-of : (k f : ℕ) → 0 < k → (r : ℕ) × Rest k f r
-rest-of k f pos = rest-below k k f pos (omega arith)
+rest-of k f pos =
+    by-shared f (λ _ k. (r : ℕ) × Rest k f r) (λ _ k co. (k, rest-end k f co)) (λ _ k g is (r, t). (r, rest-step k f g r is t)) k k pos
+    (omega (arith, below-power k))
+  where
+    below-power : (n : ℕ) → n < 2 ^ n
+    below-power zero = omega (arith, pow-zero 2)
+    below-power (suc n) = omega (arith, pow-suc 2 n, below-power n)

@@ -74,6 +74,20 @@ bezout-more a b r =
       under = omega arith;
     }
 
+bezout-times : {a b : ℕ} (c : ℕ) → Bezout a b → Bezout (c * a) (c * b)
+bezout-times c r =
+    record {
+      g = c * r .g;
+      left = mul-dvd-mul-left (r .g) c (r .left);
+      right = mul-dvd-mul-left (r .g) c (r .right);
+      x = r .x;
+      y = r .y;
+      over = omega (arith, ap (λ (t : ℕ). c * t) (r .over));
+      x' = r .x';
+      y' = r .y';
+      under = omega (arith, ap (λ (t : ℕ). c * t) (r .under));
+    }
+
 bezout-below : (n a b : ℕ) → 0 < a → 0 < b → a + b ≤ n → Bezout a b
 bezout-below zero a b p q h = absurd (omega arith)
 bezout-below (suc n) a b p q h = go (λ x y px py le. bezout-below n x y px py le) (decLt a b) (decLt b a)
@@ -93,7 +107,7 @@ bezout a b p q = bezout-below (a + b) a b p q (omega arith)
 pub coprime-dvd : {a b : ℕ} (d : ℕ) → d ∣ a → Coprime a b → Coprime d b
 coprime-dvd d h co e p q = co e (dvd-trans e p h) q
 
--- the two ways that 1 is a difference of multiples
+-- 1 is a difference of multiples
 pub record Unit-of (a b : ℕ) : Type 0 where
   pub x : ℕ
   pub y : ℕ
@@ -163,23 +177,10 @@ gcd-parts a b g m n pos is ea eb d p q =
 
 -- multiplied by c, so is it
 pub gcd-times : (c a b g : ℕ) → 0 < a → 0 < b → IsGcd a b g → IsGcd (c * a) (c * b) (c * g)
+unfolding bezout-times
 gcd-times c a b g p q is =
-    record {
-      left = mul-dvd-mul-left g c (is .left);
-      right = mul-dvd-mul-left g c (is .right);
-      greatest =
-          λ d h k. dvd-add-iff-left d {m = c * g} {n = r .y * (c * b)} (dvd-mul-left-of-dvd d k (r .y)) .1
-          (subst (λ (t : ℕ). d ∣ t) (spread (r .x) (r .y) (r .over ∙ ap (λ (t : ℕ). t + r .y * b) same)) (dvd-mul-left-of-dvd d h (r .x)));
-    }
-  where
-    r : Bezout a b
-    r = bezout a b p q
-
-    same : r .g ≡ g
-    same = gcd-unique a b (r .g) g (bezout-gcd r) is
-
-    spread : (x y : ℕ) → x * a ≡ g + y * b → x * (c * a) ≡ c * g + y * (c * b)
-    spread x y e = omega (arith, ap (λ (t : ℕ). c * t) e)
+    let r = bezout a b p q in
+    subst (λ (t : ℕ). IsGcd (c * a) (c * b) (c * t)) (gcd-unique a b (r .g) g (bezout-gcd r) is) (bezout-gcd (bezout-times c r))
 
 -- a divided by it divides exactly the x for which a divides b·x
 pub gcd-exact : (a b g m x : ℕ) → 0 < a → IsGcd a b g → m * g ≡ a → (a ∣ b * x) ↔ (m ∣ x)
