@@ -2,9 +2,8 @@
 use mathlib.Core.Path.{_≡_}
 use mathlib.Core.Bool.{cond}
 use Prim.Native.Nat.{ℕ, _+_, _*_, _/_, _%_, _≤_, _<_}
-use mathlib.Core.List.{List, [], _∷_}
+use mathlib.Core.List.{[], _∷_}
 use lib.Dec.{eqb}
-use lib.ListN.{length, getD}
 use Rattle.permuting.specs.Formulas.{Formula, Permutes}
 use Rattle.triples.specs.declared.Triple.{Triple}
 
@@ -40,9 +39,3 @@ oddForm t =
     (triple (t .k) ((t .f1 + t .k / 2) % t .k) ((t .f2 + t .k / 2) % t .k))
     t)
     t
-
--- The first n entries of the list after are those of the rule, and the rest is as it was before.
-pub record Written (rule : ℕ → ℕ) (n : ℕ) (before after : List ℕ) : Type 0 where
-  pub size : length after ≡ length before
-  pub entries : (i : ℕ) → i < n → getD after i 0 ≡ rule i
-  pub rest : (i : ℕ) → n ≤ i → getD after i 0 ≡ getD before i 0

@@ -3,7 +3,8 @@ use crate::Triple;
 ghost use mathlib.Core.Path.{_≡_};
 ghost use Prim.Native.Nat.{_+_, _%_, _≤_, _<_};
 ghost use lib.ListN.{length};
-ghost use Rattle.triples.specs.Shuffles.{f, InRange, Written};
+ghost use Rattle.numbers.specs.Lists.{Written};
+ghost use Rattle.triples.specs.Shuffles.{f, InRange};
 
 // The sum of two remainders modulo k.
 fn plus(a: u32, b: u32, k: u32) -> u32
