@@ -1,5 +1,7 @@
-pub mod Tab
+-- To be believed: `Formulas`, `Permutations`, `Scratch`, `Blocks`. The others serve inside.
 pub mod Formulas
 pub mod Permutations
-pub mod Marks
+pub mod Scratch
 pub mod Blocks
+pub mod Tabulation
+pub mod Bitmap

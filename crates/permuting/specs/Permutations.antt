@@ -1,4 +1,4 @@
--- What it means to permute a list by a map of its positions, for any map and any kind of element.
+-- To be believed: what it means to permute a list by a map of its positions, for any map and any kind of element.
 use mathlib.Core.Path.{_≡_}
 use mathlib.Core.Bool.{Bool, true, false}
 use mathlib.Core.List.{List, [], _∷_}

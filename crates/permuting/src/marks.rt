@@ -1,7 +1,8 @@
 // One bit to a place, so that a block of k symbols asks for (k + 7) / 8 bytes and no array of the library's own.
 ghost use Prim.Native.Nat.{_+_, _*_, _/_, _≤_, _<_};
 ghost use lib.ListN.{length};
-ghost use Rattle.permuting.specs.Marks.{Stands, Marked, Cleared, FirstFree};
+ghost use Rattle.permuting.specs.Scratch.{Cleared};
+ghost use Rattle.permuting.specs.Bitmap.{Stands, Marked, FirstFree};
 
 // A mark is set and never taken back one by one: `clear` takes them all.
 pub fn mark(s: &mut [u8], i: usize)

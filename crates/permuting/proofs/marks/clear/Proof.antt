@@ -1,5 +1,5 @@
--- `clear` meets its contract. The loop's invariant: the bytes before i are cleared, and no other is touched. The measure is what is left
--- up to n.
+-- The invariant: the bytes before i are cleared, and the others are as they came. The measure is what is left up to n, and it falls, since i
+-- goes up by one.
 use borrow.Author.Needs.{needs}
 use borrow.Author.Fill.{fill-more}
 use mathlib.Core.Path.{_≡_, refl, ap, _∙_}
@@ -7,7 +7,7 @@ use mathlib.Core.List.{List}
 use Prim.Native.Nat.{ℕ, _≤_, _<_, _-_}
 use native.Mathlib.Omega.{arith}
 use lib.ListN.{length, set}
-use Rattle.permuting.specs.Marks.{Cleared}
+use Rattle.permuting.specs.Scratch.{Cleared}
 use Rattle.permuting.proofs.marks.clear.Statement.{statement}
 use Rattle.permuting.proofs.marks.clear.Tie as tie
 
@@ -20,24 +20,12 @@ abbrev μ-loop : tie.MeasureT-loop
 loop-holds : tie.Need-loop-holds Inv-loop μ-loop
 loop-holds c = (record { bytes = refl }, omega arith, refl)
 
-slice-write-s : tie.Need-slice-write-s Inv-loop μ-loop
-slice-write-s c = search needs
-
-add-i : tie.Need-add-i Inv-loop μ-loop
-add-i c = search needs
-
-loop-less : tie.Need-loop-less Inv-loop μ-loop
-loop-less c = search needs
-
 loop-again : tie.Need-loop-again Inv-loop μ-loop
 loop-again c =
     let s₀ = c .before .before .args .s .now in
     let i = c .before .loop .i in
     let h : i < length s₀ = omega arith in
     (record { bytes = ap (λ (l : List ℕ). set l i 0) (c .before .loop .inv .0 .bytes) ∙ fill-more i 0 s₀ h }, search needs, search needs)
-
-same-length : tie.Need-same-length Inv-loop μ-loop
-same-length c = search needs
 
 returns : tie.Need-returns Inv-loop μ-loop
 returns c =
@@ -47,13 +35,4 @@ returns c =
 pub clear-spec : {M : Type 1} → statement M
 clear-spec =
     tie.close
-    (tie.spec
-    Inv-loop
-    μ-loop
-    loop-holds
-    slice-write-s
-    add-i
-    loop-less
-    loop-again
-    same-length
-    returns)
+    (tie.spec Inv-loop μ-loop loop-holds (λ c. search needs) (λ c. search needs) (λ c. search needs) loop-again (λ c. search needs) returns)

@@ -1,5 +1,5 @@
--- The loop's invariant: every place from `from` up to i is marked. The measure is what is left up to n; a full byte, passed as a whole,
--- marks every place that it holds.
+-- The invariant: every place from `from` up to i is marked. The measure is what is left up to n, and it falls: i goes up by one, or past a
+-- full byte, which marks every place that it holds.
 use borrow.Author.Needs.{needs}
 use borrow.Author.Tests.{not-true, not-false}
 use mathlib.Core.Path.{_≡_, _∙_}
@@ -9,8 +9,8 @@ use Prim.Native.Nat.{ℕ, _-_, _≤_, _<_}
 use native.Mathlib.Decide.{ℕ-discrete, decLt}
 use native.Mathlib.Omega.{arith}
 use lib.ListN.{getD}
-use Rattle.permuting.specs.Marks.{marks}
-use Rattle.permuting.proofs.Marking.{byte-marked}
+use Rattle.permuting.specs.Bitmap.{marks}
+use Rattle.permuting.proofs.Bitmap.{byte-marked}
 use Rattle.permuting.proofs.marks.first_free.Statement.{statement}
 use Rattle.permuting.proofs.marks.first_free.Tie as tie
 
@@ -23,15 +23,6 @@ abbrev μ-loop : tie.MeasureT-loop
 loop-holds : tie.Need-loop-holds Inv-loop μ-loop
 loop-holds c = (search needs, search needs, λ j a b. absurd (omega arith))
 
-shared-slice-read-if1 : tie.Need-shared-slice-read-if1 Inv-loop μ-loop
-shared-slice-read-if1 c = search needs
-
-past-byte-requires : tie.Need-past-byte-requires Inv-loop μ-loop
-past-byte-requires c κs = search needs
-
-loop-less : tie.Need-loop-less Inv-loop μ-loop
-loop-less c = search needs
-
 loop-again : tie.Need-loop-again Inv-loop μ-loop
 loop-again c =
     let entered = c .before .before .before .before in
@@ -40,24 +31,16 @@ loop-again c =
     let full = byte-marked (args .n) (args .s .now) (l .i) in
     (search needs, omega arith, λ j a b. by-cases (decLt j (l .i)) (l .inv .2 j a) (λ q. full j (omega arith) (c .before .if1 .taken) (omega arith) (omega arith)))
 
-is-marked-requires : tie.Need-is-marked-requires Inv-loop μ-loop
-is-marked-requires c κs = search needs
-
 returns : tie.Need-returns Inv-loop μ-loop
 returns c =
+    let entered = c .before .before .before .before .before in
     let m = c .before .is-marked in
     record {
       least = omega arith;
       most = omega arith;
-      passed = c .before .before .before .before .before .loop .inv .2;
+      passed = entered .loop .inv .2;
       free = λ h. m .ensures _ h ∙ not-true (m .result) (c .if2 .taken);
     }
-
-add-i : tie.Need-add-i Inv-loop μ-loop
-add-i c = search needs
-
-loop-less-2 : tie.Need-loop-less-2 Inv-loop μ-loop
-loop-less-2 c = search needs
 
 loop-again-2 : tie.Need-loop-again-2 Inv-loop μ-loop
 loop-again-2 c =
@@ -78,17 +61,5 @@ returns-2 c = record {
 pub first-free-spec : {M : Type 1} → statement M
 first-free-spec =
     tie.close
-    (tie.spec
-    Inv-loop
-    μ-loop
-    loop-holds
-    shared-slice-read-if1
-    past-byte-requires
-    loop-less
-    loop-again
-    is-marked-requires
-    returns
-    add-i
-    loop-less-2
-    loop-again-2
-    returns-2)
+    (tie.spec Inv-loop μ-loop loop-holds (λ c. search needs) (λ c κs. search needs) (λ c. search needs) loop-again (λ c κs. search needs)
+    returns (λ c. search needs) (λ c. search needs) loop-again-2 returns-2)

@@ -5,7 +5,7 @@ use Prim.Native.Nat.{ℕ, zero, suc, _<_}
 use native.Mathlib.Nat.{le-of-suc-le-suc, not-suc-le-zero}
 use lib.ListN.{length, getD}
 use lib.Seq.{ext-getD}
-use Rattle.permuting.specs.Tab.{tab}
+use Rattle.permuting.specs.Tabulation.{tab}
 
 module _ {A : Type 0} where
   pub length-tab : (f : ℕ → A) (n : ℕ) → length (tab f n) ≡ n

@@ -9,12 +9,12 @@ use native.Mathlib.Omega.{arith}
 use lib.ListN.{length, getD, set}
 use Rattle.permuting.specs.Permutations.{Permutation, count}
 use Rattle.permuting.specs.Blocks.{Direction, interleave, deinterleave, Permuted}
-use Rattle.permuting.specs.Marks.{marks, Kept, Cleared, Marked, Followed, FirstFree}
-use Rattle.permuting.proofs.Marking.{length-marks}
-use Rattle.permuting.proofs.Keeping.{kept-none, kept-then, cleared-none-marked}
-use Rattle.permuting.proofs.Seen.{Seen, Unseen, fewer-unseen}
-use Rattle.permuting.proofs.Cycles.{OffCycle, OnCycle, cycles-begin, cycles-skip, cycle-open, cycle-step, cycle-close, in-marks, start-seen}
-use Rattle.permuting.proofs.Walks.{to, from, Moved, moved-begin, moved-open, moved-close, moved-store, next-unmoved, moved-end}
+use Rattle.permuting.specs.Scratch.{Cleared}
+use Rattle.permuting.specs.Bitmap.{marks, Kept, Marked, Followed, FirstFree}
+use Rattle.permuting.proofs.Bitmap.{length-marks, kept-none, kept-then}
+use Rattle.permuting.proofs.Scratch.{cleared-none-marked}
+use Rattle.permuting.proofs.Cycles.{Seen, Unseen, fewer-unseen, OffCycle, OnCycle, cycles-begin, cycles-skip, cycle-open, cycle-step, cycle-close, in-marks, start-seen}
+use Rattle.permuting.proofs.Symbols.{to, from, Moved, moved-begin, moved-open, moved-close, moved-store, next-unmoved, moved-end}
 
 -- the place whose old symbol is held in hand on the cycle of start, at i
 abbrev pub held-from : Direction → ℕ → ℕ → ℕ

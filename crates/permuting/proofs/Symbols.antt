@@ -9,8 +9,7 @@ use lib.ListN.{length, getD, set, length-set}
 use lib.Seq.{getD-set-same, getD-set-other}
 use Rattle.permuting.specs.Permutations.{Permutation}
 use Rattle.permuting.specs.Blocks.{Direction, interleave, deinterleave, Permuted}
-use Rattle.permuting.proofs.Seen.{Seen, Unseen, clash, seen-how, unseen-other, unseen-before}
-use Rattle.permuting.proofs.Cycles.{OnCycle, in-marks, next-unseen, next-other}
+use Rattle.permuting.proofs.Cycles.{Seen, Unseen, clash, seen-how, unseen-other, unseen-before, OnCycle, in-marks, next-unseen, next-other}
 
 -- place `to` i comes to hold what stood at `from` i
 abbrev pub to : Direction → (ℕ → ℕ) → ℕ → ℕ

@@ -1,11 +1,11 @@
--- Marks in lent bytes, one bit to a place: place i is bit i % 8 of byte i / 8.
+-- Serves inside: marks in lent bytes, one bit to a place. Place i is bit i % 8 of byte i / 8.
 use mathlib.Core.Path.{_≡_}
 use mathlib.Core.Bool.{Bool, true, false}
-use mathlib.Core.List.{List, _++_}
+use mathlib.Core.List.{List}
 use Prim.Native.Nat.{ℕ, _/_, _%_, _^_, _<_, _≤_}
 use lib.Dec.{eqb}
-use lib.ListN.{length, getD, set, drop, replicate}
-use Rattle.permuting.specs.Tab.{tab}
+use lib.ListN.{length, getD, set, drop}
+use Rattle.permuting.specs.Tabulation.{tab}
 
 -- is bit j of the number b set
 unfoldable pub bit : ℕ → ℕ → Bool
@@ -18,10 +18,6 @@ marked s i = bit (getD s (i / 8) 0) (i % 8)
 -- the marks of the places 0 .. k - 1, as a list of yes and no
 unfoldable pub marks : ℕ → List ℕ → List Bool
 marks k s = tab (marked s) k
-
--- the first n bytes are zero, and the rest is as it was
-pub record Cleared (n : ℕ) (before after : List ℕ) : Type 0 where
-  pub bytes : after ≡ replicate n 0 ++ drop n before
 
 -- changed in its first n bytes alone
 pub record Kept (n : ℕ) (before after : List ℕ) : Type 0 where

@@ -1,4 +1,4 @@
--- A list written down by its rule.
+-- Serves inside: a list written down by its rule.
 use mathlib.Core.List.{List, [], _∷_}
 use Prim.Native.Nat.{ℕ, zero, suc}
 

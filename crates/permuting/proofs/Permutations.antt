@@ -1,6 +1,5 @@
--- A permutation comes to every position, and keeps how many elements pass a test, whatever the test. By weights: a map that takes no two
--- positions to one meets no more weight than there is; so no test is passed more often after than before, nor is its contrary, and
--- together they are passed by all.
+-- A permutation comes to every position and keeps how many elements pass a test, whatever the test; interleaving and deinterleaving have one
+-- answer each, and each undoes the other.
 use mathlib.Core.Path.{_≡_, refl, sym, ap, ap₂, _∙_}
 use mathlib.Core.Logic.{_≢_}
 use mathlib.Core.List.{List, [], _∷_}
@@ -10,11 +9,14 @@ use native.Mathlib.Nat.{le-of-suc-le-suc, not-suc-le-zero}
 use native.Mathlib.Omega.{arith}
 use lib.Dec.{eqb}
 use lib.ListN.{length, getD, set}
-use lib.Seq.{getD-set-other}
+use lib.Seq.{getD-set-other, ext-getD}
 use borrow.Author.Tests.{eq-eqb, eqb-true}
-use Rattle.permuting.specs.Tab.{tab}
-use Rattle.permuting.specs.Permutations.{Permutation, Interleaved, count, one-if}
-use Rattle.permuting.proofs.Tabs.{length-tab, getD-tab, is-tab}
+use Rattle.permuting.specs.Tabulation.{tab}
+use Rattle.permuting.specs.Permutations.{Permutation, Interleaved, Deinterleaved, count, one-if}
+use Rattle.permuting.proofs.Tabulation.{length-tab, getD-tab, is-tab}
+
+-- ---- by weights: a map that takes no two positions to one meets no more weight than there is; so no test is passed more often after than
+-- before, nor is its contrary, and together they are passed by all
 
 sum : List ℕ → ℕ
 sum [] = 0
@@ -134,3 +136,36 @@ onto {n} {π} perm y h =
 
     from : (i : ℕ) × (i < length (tab π n)) × (is-y (getD (tab π n) i 0) ≡ true) → (i : ℕ) × (i < n) × (π i ≡ y)
     from (i, l, e) = let b : i < n = rw length-tab at l in (i, b, sym (getD-tab π n i 0 b) ∙ eqb-true (getD (tab π n) i 0) y e)
+
+-- ---- interleaving and deinterleaving: to deinterleave is to interleave read backwards, so each law is proved once
+
+module _ {A : Type 0} {d : A} {π : ℕ → ℕ} where
+  pub backwards : {a b : List A} → Deinterleaved d π a b → Interleaved d π b a
+  backwards {a} {b} m = record { size = sym (m .size); holds = λ i h. sym (m .holds i (rw (← m .size) h)) }
+
+  pub interleaved-one : {a b b′ : List A} → Interleaved d π a b → Interleaved d π a b′ → b ≡ b′
+  interleaved-one {a} {b} {b′} m m′ =
+      ext-getD d b b′ (m .size ∙ sym (m′ .size)) (λ i h. let h′ : i < length a = rw (m .size) at h in m .holds i h′ ∙ sym (m′ .holds i h′))
+
+  -- what is interleaved says what it was
+  pub interleaved-from-one : {n : ℕ} {a a′ b : List A} → Permutation n π → length b ≡ n → Interleaved d π a b → Interleaved d π a′ b → a ≡ a′
+  interleaved-from-one {n} {a} {a′} {b} perm l m m′ =
+      ext-getD d a a′ (sym (m .size) ∙ m′ .size) (λ y h. at y (onto perm y (rw (← l, m .size) h)))
+    where
+      at : (y : ℕ) → (i : ℕ) × (i < n) × (π i ≡ y) → getD a y d ≡ getD a′ y d
+      at y o =
+          let h : o .0 < length b = rw l (o .1) in
+          ap (λ (x : ℕ). getD a x d) (sym (o .2)) ∙ sym (m .holds (o .0) (rw (← m .size) h)) ∙ m′ .holds (o .0) (rw (← m′ .size) h)
+          ∙ ap (λ (x : ℕ). getD a′ x d) (o .2)
+
+  pub deinterleaved-one : {n : ℕ} {a b b′ : List A} → Permutation n π → length a ≡ n → Deinterleaved d π a b → Deinterleaved d π a b′ → b ≡ b′
+  deinterleaved-one perm l m m′ = interleaved-from-one perm l (backwards m) (backwards m′)
+
+  pub interleave-then-deinterleave : {n : ℕ} {a b c : List A} → Permutation n π → length a ≡ n → Interleaved d π a b → Deinterleaved d π b c → c ≡ a
+  interleave-then-deinterleave perm l m m′ = interleaved-from-one perm (m .size ∙ l) (backwards m′) m
+
+  pub deinterleave-then-interleave : {a b c : List A} → Deinterleaved d π a b → Interleaved d π b c → c ≡ a
+  deinterleave-then-interleave m m′ = interleaved-one m′ (backwards m)
+
+  pub deinterleaved-count : {n : ℕ} {a b : List A} → Permutation n π → length a ≡ n → Deinterleaved d π a b → (p : A → Bool) → count p b ≡ count p a
+  deinterleaved-count perm l m p = sym (interleaved-count perm (m .size ∙ l) (backwards m) p)

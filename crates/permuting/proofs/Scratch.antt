@@ -1,19 +1,14 @@
--- Laws of bytes that are kept past the first n, and of cleared ones.
-use mathlib.Core.Path.{_≡_, refl, sym, ap, _∙_}
+-- Cleared bytes: none of their places is marked, no second answer is cleared, and to clear again is to clear.
+use mathlib.Core.Path.{_≡_, sym, ap, _∙_}
 use mathlib.Core.Bool.{false}
 use mathlib.Core.List.{List, _++_}
 use Prim.Native.Nat.{ℕ, _*_, _≤_}
 use native.Mathlib.Omega.{arith}
 use lib.ListN.{length, getD, drop, replicate, length-append, length-drop, length-replicate}
 use lib.Seq.{drop-at}
-use Rattle.permuting.specs.Marks.{marks, Kept, Cleared}
-use Rattle.permuting.proofs.Marking.{none-marked}
-
-pub kept-none : (n : ℕ) (s : List ℕ) → Kept n s s
-kept-none n s = record { size = refl; tail = refl }
-
-pub kept-then : {n : ℕ} {s₀ s₁ s₂ : List ℕ} → Kept n s₀ s₁ → Kept n s₁ s₂ → Kept n s₀ s₂
-kept-then a b = record { size = b .size ∙ a .size; tail = b .tail ∙ a .tail }
+use Rattle.permuting.specs.Scratch.{Cleared}
+use Rattle.permuting.specs.Bitmap.{marks, Kept}
+use Rattle.permuting.proofs.Bitmap.{none-marked, kept-none}
 
 pub cleared-none-marked : {n : ℕ} {s₀ s₁ : List ℕ} (k : ℕ) → k ≤ n * 8 → Cleared n s₀ s₁ → (j : ℕ) → getD (marks k s₁) j false ≡ false
 cleared-none-marked {n} {s₀} k h c j = ap (λ (s : List ℕ). getD (marks k s) j false) (c .bytes) ∙ none-marked k n (drop n s₀) h j
