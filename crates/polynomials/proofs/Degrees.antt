@@ -7,14 +7,15 @@ use native.Mathlib.Nat.{mod-lt, le-refl, le-of-lt, zero-add}
 use native.Mathlib.Omega.{arith}
 use lib.ListN.{length, getD, List·getD-eq-default}
 use lib.IntN.{ℤ, pos}
-use Rattle.numbers.specs.Congruence.{Cong}
+use Rattle.numbers.specs.Congruences.{Cong}
 use Rattle.numbers.proofs.Congruences.{cong-eq, cong-sym, _⨾_, cong-add, cong-mod, cong-small, cong-zero, zero-cong}
-use Rattle.polynomials.specs.Polynomials.{value, coefficient, Below, Congruent, Agree}
-use Rattle.polynomials.specs.Limits.{factorial, Limit, Within}
+use Rattle.polynomials.specs.Polynomials.{value, coefficient, Below, Congruent}
+use Rattle.polynomials.specs.Bounds.{factorial, Limit, Within}
+use Rattle.polynomials.specs.Reductions.{Agree}
 use Rattle.polynomials.proofs.Differences.{positive, negative, parts, congruent, natural, natural-pos}
-use Rattle.polynomials.proofs.Naturals.{valueℕ, add, add-place, add-value, plus, plus-place, plus-value, cong-value, positives, negatives, positives-place, negatives-place, value-difference}
+use Rattle.polynomials.proofs.Naturals.{valueℕ, add, add-place, add-value, plus, plus-place, plus-value, cong-value, positives, negatives, part-place, value-difference}
 use Rattle.polynomials.proofs.Nulls.{null-top}
-use Rattle.polynomials.proofs.Limiting.{limit-of, limit-exact, limit-pos}
+use Rattle.polynomials.proofs.Bounds.{limit-of, limit-exact, limit-pos}
 
 module _ (K : ℕ) (k0 : 0 < K) (p q : List ℤ) (agree : Agree K p q) where
   agree-natural : (y : ℕ) → Cong K (valueℕ (positives p) y + valueℕ (negatives q) y) (valueℕ (positives q) y + valueℕ (negatives p) y)
@@ -34,7 +35,7 @@ minus s p q = plus (add (positives p) (negatives q)) s (add (positives q) (negat
 minus-place : (s : ℕ) (p q : List ℤ) (k : ℕ)
     → getD (minus s p q) k 0 ≡ positive (coefficient p k) + negative (coefficient q k) + s * (positive (coefficient q k) + negative (coefficient p k))
 unfolding minus
-minus-place s p q k = simp (plus-place, add-place, positives-place, negatives-place)
+minus-place s p q k = simp (plus-place, add-place, part-place positive, part-place negative)
 
 -- where p and q agree, and are the same past the place k, their coefficients at k are congruent modulo the limit
 pub agree-place : (K : ℕ) → 0 < K → (p q : List ℤ) → Agree K p q → (k m : ℕ) → Limit K k m → ((j : ℕ) → k < j → coefficient p j ≡ coefficient q j)

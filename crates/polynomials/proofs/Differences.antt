@@ -5,7 +5,7 @@ use Prim.Native.Nat.{ℕ, zero, suc, _+_, _*_, _-_, _≤_, _<_}
 use native.Mathlib.Omega.{arith}
 use lib.Dec.{T, ltb, ltb→lt, nltb→le}
 use lib.IntN.{ℤ, pos, negsuc, _+ℤ_, _*ℤ_, negℤ, subℕ}
-use Rattle.numbers.specs.Congruence.{Cong}
+use Rattle.numbers.specs.Congruences.{Cong}
 use Rattle.polynomials.specs.Polynomials.{Congruent}
 
 abbrev pub positive : ℤ → ℕ

@@ -1,18 +1,21 @@
--- What makes a polynomial the inverse of a map that comes to every position, and that there is only one.
+-- What makes a polynomial the inverse of a map that comes to every position; that there is only one, as a polynomial and as a degree and
+-- thirteen places.
 use mathlib.Core.Path.{_≡_, refl, sym, ap, subst, _∙_}
 use mathlib.Core.List.{List, [], _∷_}
 use Prim.Native.Nat.{ℕ, zero, suc, _+_, _≤_, _<_}
 use native.Mathlib.Omega.{arith}
 use native.Mathlib.Decide.{decLt}
+use lib.ListN.{length}
+use lib.Seq.{ext-getD}
 use lib.IntN.{ℤ, pos, _+ℤ_, _*ℤ_, *ℤ-zero}
-use Rattle.numbers.specs.Congruence.{Cong}
+use Rattle.numbers.specs.Congruences.{Cong}
 use Rattle.numbers.proofs.Congruences.{cong-small}
-use Rattle.polynomials.specs.Polynomials.{value, coefficient, wholes, Below, Degree, Congruent, Agree}
-use Rattle.polynomials.specs.Limits.{Within}
-use Rattle.polynomials.specs.Reductions.{Reduced}
-use Rattle.polynomials.specs.Inverses.{Undoes, InversePolynomial}
-use Rattle.polynomials.proofs.Differences.{congruent-pos, natural-pos, congruent-sym, congruent-trans}
-use Rattle.polynomials.proofs.Naturals.{valueℕ, wholes-value}
+use Rattle.polynomials.specs.Polynomials.{value, coefficient, wholes, Below, Congruent}
+use Rattle.polynomials.specs.Bounds.{Within}
+use Rattle.polynomials.specs.Reductions.{Agree, Reduced, Degree}
+use Rattle.polynomials.specs.Inverses.{Undoes, InversePolynomial, from-first, Inverted}
+use Rattle.polynomials.proofs.Differences.{positive, congruent-pos, natural-pos, congruent-sym, congruent-trans}
+use Rattle.polynomials.proofs.Naturals.{valueℕ, wholes-place, wholes-value}
 use Rattle.polynomials.proofs.Degrees.{agree-everywhere, least-degree, unique}
 
 -- ---- undoing
@@ -108,3 +111,22 @@ inverse-same {K} {D} {g} φ ψ same a =
   where
     back : (h : List ℤ) → Undoes K ψ h → Undoes K φ h
     back h = undoes-same K ψ φ h (λ x l. sym (same x l))
+
+-- ---- as a degree and thirteen places
+
+-- past the degree the coefficients are 0
+pub inverted-from : {K : ℕ} {φ : ℕ → ℕ} {D : ℕ} (a : List ℕ) → length a ≡ 13 → InversePolynomial K φ D (from-first a) → Inverted K φ D a
+inverted-from a places inverse =
+    record {
+      places = places;
+      polynomial = inverse;
+      rest = λ j l. ap positive (sym (wholes-place a j) ∙ inverse .past (suc j) (omega arith));
+    }
+
+pub inverted-one : {K : ℕ} {φ : ℕ → ℕ} {D E : ℕ} {a b : List ℕ} → Inverted K φ D a → Inverted K φ E b → (D ≡ E) × (a ≡ b)
+inverted-one {a = a} {b = b} p q =
+    let (degrees, coefficients) = inverse-one (p .polynomial) (q .polynomial) in
+    (degrees, ext-getD 0 a b (p .places ∙ sym (q .places)) (λ j _. ap positive (sym (wholes-place a j) ∙ coefficients (suc j) ∙ wholes-place b j)))
+
+pub inverted-same : {K : ℕ} {D : ℕ} {a : List ℕ} (φ ψ : ℕ → ℕ) → ((x : ℕ) → x < K → φ x ≡ ψ x) → Inverted K φ D a → Inverted K ψ D a
+inverted-same {a = a} φ ψ same p = inverted-from a (p .places) (inverse-same φ ψ same (p .polynomial))

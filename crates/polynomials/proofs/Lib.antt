@@ -1,17 +1,12 @@
--- `Filling`: arrays that a loop fills, and tables. `Differences`: whole numbers by natural ones. `Naturals`: polynomials with natural
--- coefficients. `Nulls`: the top coefficient of one that is 0 everywhere. `Limiting`: the limits. `Degrees`: least degree and
--- uniqueness. `Rising`: rising products. `Reducing`: one brought inside the limits, place by place. `Turning`: the loop that does it in
--- 32 bits. `Inverses`: the inverse, and that it is one. `Checking`: an inverse that is given by numbers. `Answering`: the inverse as a
--- degree and thirteen places.
-pub mod Filling
+-- A file has the laws of the definitions in the file of its name in specs/.
+-- Beside them, `Differences`: whole numbers by natural ones. `Naturals`: polynomials with natural coefficients. `Nulls`: the top coefficient
+-- of one that is 0 everywhere. `Degrees`: least degree and uniqueness. `Instances`: an inverse that is given by numbers.
 pub mod Differences
 pub mod Naturals
 pub mod Nulls
-pub mod Limiting
+pub mod Bounds
 pub mod Degrees
-pub mod Rising
-pub mod Reducing
-pub mod Turning
+pub mod RisingProducts
+pub mod Reductions
 pub mod Inverses
-pub mod Checking
-pub mod Answering
+pub mod Instances

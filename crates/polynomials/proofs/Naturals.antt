@@ -9,10 +9,10 @@ use native.Mathlib.Decide.{decLt}
 use lib.ListN.{getD, take, drop, length-take, List·getD-map, List·getD-eq-default}
 use lib.Seq.{getD-take}
 use lib.IntN.{ℤ, pos, _+ℤ_, _*ℤ_}
-use Rattle.numbers.specs.Congruence.{Cong}
+use Rattle.numbers.specs.Congruences.{Cong}
 use Rattle.numbers.proofs.Congruences.{cong-eq, cong-sym, cong-add, cong-mul, cong-times, _⨾_}
-use Rattle.polynomials.specs.Polynomials.{value, coefficient, wholes, Degree, Congruent}
-use Rattle.polynomials.specs.Reductions.{Ends}
+use Rattle.polynomials.specs.Polynomials.{value, coefficient, wholes, Congruent}
+use Rattle.polynomials.specs.Reductions.{Ends, Degree}
 use Rattle.polynomials.proofs.Differences.{positive, negative, Difference, parts, difference-add, difference-mul, congruent-pos}
 
 abbrev pub valueℕ : List ℕ → ℕ → ℕ
@@ -153,17 +153,16 @@ wholes-degree p D top past =
       past = λ k l. wholes-place p k ∙ ap pos (past k (omega arith));
     }
 
+-- ---- both parts of whole coefficients
+
 abbrev pub positives : List ℤ → List ℕ
 positives = map positive
 
 abbrev pub negatives : List ℤ → List ℕ
 negatives = map negative
 
-pub positives-place : (p : List ℤ) (k : ℕ) → getD (positives p) k 0 ≡ positive (coefficient p k)
-positives-place p k = List·getD-map positive p k (pos 0)
-
-pub negatives-place : (p : List ℤ) (k : ℕ) → getD (negatives p) k 0 ≡ negative (coefficient p k)
-negatives-place p k = List·getD-map negative p k (pos 0)
+pub part-place : (part : ℤ → ℕ) (p : List ℤ) (k : ℕ) → getD (map part p) k (part (pos 0)) ≡ part (coefficient p k)
+part-place part p k = List·getD-map part p k (pos 0)
 
 pub value-difference : (p : List ℤ) (y : ℕ) → Difference (value p (pos y)) (valueℕ (positives p) y) (valueℕ (negatives p) y)
 value-difference [] y = omega arith

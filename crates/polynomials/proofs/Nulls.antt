@@ -4,9 +4,9 @@ use mathlib.Core.List.{List, [], _∷_}
 use Prim.Native.Nat.{ℕ, zero, suc, _+_, _*_, _-_, _≤_, _<_}
 use native.Mathlib.Omega.{arith}
 use lib.ListN.{getD}
-use Rattle.numbers.specs.Congruence.{Cong}
+use Rattle.numbers.specs.Congruences.{Cong}
 use Rattle.numbers.proofs.Congruences.{cong-eq, cong-sym, _⨾_, cong-add, cong-times, cong-cancel}
-use Rattle.polynomials.specs.Limits.{factorial}
+use Rattle.polynomials.specs.Bounds.{factorial}
 use Rattle.polynomials.proofs.Naturals.{valueℕ, add, add-place, add-value}
 
 -- by how much y·q(y) grows from y to y + 1

@@ -1,4 +1,4 @@
--- The polynomial that undoes a map of the K positions. These are definitions.
+-- To be believed: the polynomial that undoes a map of the K positions.
 use mathlib.Core.Path.{_≡_}
 use mathlib.Core.Logic.{_≢_}
 use mathlib.Core.List.{List, _∷_}
@@ -6,7 +6,7 @@ use Prim.Native.Nat.{ℕ, _+_, _≤_, _<_}
 use lib.ListN.{length, getD}
 use lib.IntN.{ℤ, pos}
 use Rattle.polynomials.specs.Polynomials.{value, coefficient, wholes, Below, Congruent}
-use Rattle.polynomials.specs.Limits.{Within}
+use Rattle.polynomials.specs.Bounds.{Within}
 
 -- g(φ(x)) is x modulo K at every position x.
 abbrev pub Undoes : ℕ → (ℕ → ℕ) → List ℤ → Type 0

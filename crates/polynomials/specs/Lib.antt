@@ -1,5 +1,6 @@
+-- To be believed: `Polynomials`, `Bounds`, `Inverses`. The others serve inside.
 pub mod Polynomials
-pub mod Limits
-pub mod Reductions
+pub mod Bounds
 pub mod Inverses
-pub mod Rising
+pub mod Reductions
+pub mod RisingProducts

@@ -1,8 +1,7 @@
--- Polynomials with whole coefficients, as lists, the constant first. These are definitions.
+-- To be believed: polynomials with whole coefficients, as lists, the constant first.
 use mathlib.Core.Path.{_≡_}
-use mathlib.Core.Logic.{_≢_}
 use mathlib.Core.List.{List, [], _∷_, map}
-use Prim.Native.Nat.{ℕ, _+_, _≤_, _<_}
+use Prim.Native.Nat.{ℕ, _≤_}
 use lib.ListN.{getD}
 use lib.IntN.{ℤ, pos, _+ℤ_, _-ℤ_, _*ℤ_}
 
@@ -23,16 +22,7 @@ wholes = map pos
 abbrev pub Below : ℕ → List ℤ → Type 0
 Below D p = (k : ℕ) → D ≤ k → coefficient p k ≡ pos 0
 
--- D is the highest place of p that is not 0; it is 0 if there is none.
-pub record Degree (p : List ℤ) (D : ℕ) : Type 0 where
-  pub top : 0 < D → coefficient p D ≢ pos 0
-  pub past : Below (D + 1) p
-
 -- K divides the difference of x and y.
 pub record Congruent (K : ℕ) (x y : ℤ) : Type 0 where
   pub times : ℤ
   pub difference : x -ℤ y ≡ times *ℤ pos K
-
--- p and q take the same values modulo K at the K positions.
-abbrev pub Agree : ℕ → List ℤ → List ℤ → Type 0
-Agree K p q = (y : ℕ) → y < K → Congruent K (value p (pos y)) (value q (pos y))

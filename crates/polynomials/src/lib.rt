@@ -3,11 +3,10 @@ mod products;
 
 ghost use mathlib.Core.Path.{_≡_};
 ghost use Prim.Native.Nat.{_+_, _≤_, _<_};
-ghost use lib.ListN.{length, getD};
-ghost use Rattle.polynomials.specs.Polynomials.{wholes, Degree};
-ghost use Rattle.polynomials.specs.Limits.{Limits};
-ghost use Rattle.polynomials.specs.Reductions.{Ends, AtMost, Reduced};
-ghost use Rattle.polynomials.specs.Rising.{Rows, Added};
+ghost use lib.ListN.{length};
+ghost use Rattle.polynomials.specs.Polynomials.{wholes};
+ghost use Rattle.polynomials.specs.Reductions.{Limits, Ends, Reducible, Reduced, Degree};
+ghost use Rattle.polynomials.specs.RisingProducts.{Addable, Added};
 
 // The limits at the places 0 to top. Each is the one before it, divided by what that has in common with the place, so that no
 // factorial is formed.
@@ -25,11 +24,10 @@ pub fn limits(k: u32, top: usize) -> [u32; 14]
     m
 }
 
-// t times the n-th rising product is added to q below the place n. No sum is brought below k here: 4227858432, 2 to the 32nd less 2 to
-// the 26th, leaves room for a product.
+// t times the n-th rising product is added to q below the place n. No sum is brought below k here: q comes with room for a product.
 fn add_rising(rows: &[u32; 78], k: u32, q: &mut [u32; 14], t: u32, n: usize)
-    requires { ⌜ (0 < k) × (k ≤ 8192) × (t ≤ k) × (1 ≤ n) × (n ≤ 13) × AtMost 4227858432 (now q) × Rows (now rows) × (length (now q) ≡ 14) ⌝ }
-    ensures { λ _. ⌜ Added k t n (now (q .entry)) (now (q .exit)) × (length (now (q .exit)) ≡ 14) ⌝ }
+    requires { ⌜ Addable k t n (now rows) (now q) ⌝ }
+    ensures { λ _. ⌜ Added k t n (now (q .entry)) (now (q .exit)) ⌝ }
 {
     let mut j = 1;
     while j < n {
@@ -43,7 +41,7 @@ fn add_rising(rows: &[u32; 78], k: u32, q: &mut [u32; 14], t: u32, n: usize)
 // and not before: what is added to it until then, twelve products of 26 bits at most, leaves room in 32 bits. The constant, whose
 // limit is k, has no turn.
 pub fn reduce(k: u32, top: usize, q: &mut [u32; 14])
-    requires { ⌜ (1 < k) × (k ≤ 8192) × (top ≤ 13) × (getD (now q) 0 0 < k) × AtMost 2147483648 (now q) × Ends top (now q) × (length (now q) ≡ 14) ⌝ }
+    requires { ⌜ Reducible k top (now q) ⌝ }
     ensures { λ _. ⌜ Reduced k (wholes (now (q .entry))) (wholes (now (q .exit))) × Ends top (now (q .exit)) × (length (now (q .exit)) ≡ 14) ⌝ }
 {
     let m = limits(k, top);

@@ -3,7 +3,7 @@
 ghost use mathlib.Core.Path.{_≡_};
 ghost use Prim.Native.Nat.{_≤_, _<_};
 ghost use lib.ListN.{getD};
-ghost use Rattle.polynomials.specs.Rising.{rising, Rows};
+ghost use Rattle.polynomials.specs.RisingProducts.{rising, Rows};
 
 const ROWS: [u32; 78] = [
     1,

@@ -1,12 +1,12 @@
--- `degree` meets its contract: every place above d is 0.
+-- The invariant: every place past d is 0. The measure is d, and it falls by one.
 use mathlib.Core.Path.{_≡_}
 use Prim.Native.Nat.{ℕ, _≤_}
 use native.Mathlib.Omega.{arith}
 use lib.ListN.{getD}
 use borrow.Author.Needs.{needs}
 use Rattle.polynomials.specs.Reductions.{Ends}
-use Rattle.polynomials.proofs.Filling.{after-more}
 use Rattle.polynomials.proofs.Naturals.{wholes-degree}
+use Rattle.polynomials.proofs.Reductions.{after-more}
 use Rattle.polynomials.proofs.degree.Statement.{statement}
 use Rattle.polynomials.proofs.degree.Tie as tie
 
@@ -19,22 +19,10 @@ abbrev μ-loop : tie.MeasureT-loop
 loop-holds : tie.Need-loop-holds Inv-loop μ-loop
 loop-holds c = (omega arith, λ i l. c .pre .1 i (omega arith))
 
-mul-if1 : tie.Need-mul-if1 Inv-loop μ-loop
-mul-if1 c = search needs
-
-element-copy-out-if1 : tie.Need-element-copy-out-if1 Inv-loop μ-loop
-element-copy-out-if1 c = search needs
-
 returns : tie.Need-returns Inv-loop μ-loop
 returns c =
     let at = c .before .before .before in
     (wholes-degree (at .before .args .p .now) (at .loop .d) (λ h. c .if1 .taken) (at .loop .inv .1), omega arith)
-
-sub-d : tie.Need-sub-d Inv-loop μ-loop
-sub-d c = search needs
-
-loop-less : tie.Need-loop-less Inv-loop μ-loop
-loop-less c = search needs
 
 loop-again : tie.Need-loop-again Inv-loop μ-loop
 loop-again c =
@@ -49,4 +37,5 @@ returns-2 c =
 pub degree-spec : {M : Type 1} → statement M
 degree-spec =
     tie.close
-    (tie.spec Inv-loop μ-loop loop-holds mul-if1 element-copy-out-if1 returns sub-d loop-less loop-again returns-2)
+    (tie.spec Inv-loop μ-loop loop-holds (λ c. search needs) (λ c. search needs) returns (λ c. search needs) (λ c. search needs) loop-again
+    returns-2)

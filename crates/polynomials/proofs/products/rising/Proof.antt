@@ -1,4 +1,4 @@
--- `rising` meets its contract: the table has the coefficient there.
+-- The answer is what the table says of the place (`Rows`); its index is below 78, since (n - 1)(n - 2) is at most 132.
 use Prim.Native.Nat.{ℕ, _-_, _*_, _≤_}
 use native.Mathlib.Nat.{mul-le-mul}
 use native.Mathlib.Omega.{arith}
@@ -6,24 +6,14 @@ use borrow.Author.Needs.{needs}
 use Rattle.polynomials.proofs.products.rising.Statement.{statement}
 use Rattle.polynomials.proofs.products.rising.Tie as tie
 
--- the index is below 78
 product-le : (n : ℕ) → n ≤ 13 → (n - 1) * (n - 2) ≤ 132
 product-le n h = mul-le-mul {n₁ = n - 1} {m₁ = n - 2} {n₂ = 12} {m₂ = 11} (omega arith) (omega arith)
-
-sub-result : tie.Need-sub-result
-sub-result c = search needs
-
-sub-result-2 : tie.Need-sub-result-2
-sub-result-2 c = search needs
 
 mul-result : tie.Need-mul-result
 mul-result c = omega (arith, product-le (c .args .n) (omega arith))
 
 add-result : tie.Need-add-result
 add-result c = omega (arith, product-le (c .args .n) (omega arith))
-
-sub-result-3 : tie.Need-sub-result-3
-sub-result-3 c = search needs
 
 mul-result-2 : tie.Need-mul-result-2
 mul-result-2 c = omega (arith, product-le (c .args .n) (omega arith))
@@ -36,4 +26,5 @@ returns c = c .before .pre .3 .place _ _ (omega arith) (omega arith) (omega arit
 
 pub rising-spec : {M : Type 1} → statement M
 rising-spec =
-    tie.close (tie.spec sub-result sub-result-2 mul-result add-result sub-result-3 mul-result-2 element-copy-out-result returns)
+    tie.close
+    (tie.spec (λ c. search needs) (λ c. search needs) mul-result add-result (λ c. search needs) mul-result-2 element-copy-out-result returns)

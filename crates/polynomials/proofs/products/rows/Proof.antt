@@ -1,4 +1,4 @@
--- `rows` meets its contract: the rule of the table is one computed test.
+-- The answer rests on one computed test: each number of the table is the coefficient that `rising` computes.
 use mathlib.Core.Path.{subst}
 use mathlib.Core.Bool.{Bool}
 use mathlib.Core.List.{List}
@@ -6,8 +6,8 @@ use Prim.Native.Nat.{ℕ, _+_, _-_, _*_, _/_}
 use native.Mathlib.Omega.{arith}
 use lib.Dec.{T, eqb, eqb→eq}
 use lib.ListN.{getD}
-use Rattle.polynomials.specs.Rising.{rising, times-linear, Rows}
-use Rattle.polynomials.proofs.Filling.{every, passes}
+use Rattle.numbers.proofs.Computation.{every, passes}
+use Rattle.polynomials.specs.RisingProducts.{rising, times-linear, Rows}
 use Rattle.polynomials.proofs.products.rows.Statement.{statement}
 use Rattle.polynomials.proofs.products.rows.Tie as tie
 

@@ -5,10 +5,11 @@ use Prim.Native.Nat.{ℕ, zero, suc, _+_, _*_, _%_, _<_, _∣_}
 use native.Mathlib.Nat.{one-dvd, dvd-zero, dvd-add, dvd-trans, mul-dvd-mul-left, zero-mod}
 use native.Mathlib.Omega.{arith}
 use lib.ListN.{getD}
-use Rattle.numbers.specs.Congruence.{Cong}
+use Rattle.numbers.specs.Congruences.{Cong}
+use Rattle.numbers.specs.Lists.{Written}
 use Rattle.numbers.proofs.Congruences.{zero-cong}
-use Rattle.polynomials.specs.Limits.{factorial, Limit}
-use Rattle.polynomials.specs.Rising.{times-linear, rising}
+use Rattle.polynomials.specs.Bounds.{factorial, Limit}
+use Rattle.polynomials.specs.RisingProducts.{times-linear, rising, sum-at}
 use Rattle.polynomials.proofs.Naturals.{valueℕ}
 
 -- ---- its coefficients
@@ -48,9 +49,17 @@ unfolding rising
 rising-top zero = refl
 rising-top (suc n) = rising-next n n ∙ omega (arith, rising-top n, ap (λ (t : ℕ). n * t) (rising-past n (suc n) (omega arith)))
 
--- times t it adds nothing to a constant
-pub nothing-added : (K t n x : ℕ) → 0 < n → x ≡ x + t * (getD (rising n) 0 0 % K)
-nothing-added K t n x n0 = omega (arith, ap (λ (y : ℕ). t * y) (ap (λ (y : ℕ). y % K) (rising-first n n0) ∙ zero-mod K))
+-- times t it adds nothing to a constant, and so the place 0 is done from the start
+pub nothing-added : (K t n : ℕ) (p : List ℕ) → 0 < n → getD p 0 0 ≡ sum-at K t n p 0
+nothing-added K t n p n0 = omega (arith, ap (λ (y : ℕ). t * y) (ap (λ (y : ℕ). y % K) (rising-first n n0) ∙ zero-mod K))
+
+pub adding-start : (K t n : ℕ) (p : List ℕ) → 0 < n → Written (sum-at K t n p) 1 p p
+adding-start K t n p n0 =
+    record {
+      size = refl;
+      entries = λ i l. subst (λ (i : ℕ). getD p i 0 ≡ sum-at K t n p i) (omega arith) (nothing-added K t n p n0);
+      rest = λ i l. refl;
+    }
 
 -- ---- its values
 

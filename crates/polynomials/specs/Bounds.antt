@@ -1,8 +1,7 @@
--- The limits of the coefficients. These are definitions.
+-- To be believed: the limits of the coefficients.
 use mathlib.Core.Path.{_≡_}
 use mathlib.Core.List.{List}
 use Prim.Native.Nat.{ℕ, zero, suc, _*_, _<_}
-use lib.ListN.{getD}
 use lib.IntN.{ℤ, pos}
 use Rattle.numbers.specs.Divisors.{IsGcd}
 use Rattle.polynomials.specs.Polynomials.{coefficient}
@@ -21,7 +20,3 @@ pub record Limit (K k m : ℕ) : Type 0 where
 -- Each coefficient of p is a whole number, 0 or more and below the limit at its place.
 abbrev pub Within : ℕ → List ℤ → Type 0
 Within K p = (k m : ℕ) → Limit K k m → (a : ℕ) × (coefficient p k ≡ pos a) × (a < m)
-
--- The limits at the places below n, one after the other.
-abbrev pub Limits : ℕ → ℕ → List ℕ → Type 0
-Limits K n ms = (k : ℕ) → k < n → Limit K k (getD ms k 0)

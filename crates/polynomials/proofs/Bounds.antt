@@ -6,8 +6,8 @@ use Prim.Native.Nat.{ℕ, zero, suc, _*_, _-_, _/_, _<_, _∣_}
 use native.Mathlib.Nat.{div-mul-cancel, dvd-refl, dvd-mul-right-of-dvd, one-dvd, mul-comm, mul-one, eq-of-mul-eq-mul-right, mul-pos}
 use native.Mathlib.Omega.{arith}
 use Rattle.numbers.specs.Divisors.{IsGcd, Coprime}
-use Rattle.numbers.proofs.Dividing.{gcd-of, gcd-unique, gcd-parts, gcd-times, gcd-exact, euclid, coprime-dvd, factors-pos}
-use Rattle.polynomials.specs.Limits.{factorial, Limit}
+use Rattle.numbers.proofs.Divisors.{gcd-of, gcd-unique, gcd-parts, gcd-times, gcd-exact, euclid, coprime-dvd, factors-pos}
+use Rattle.polynomials.specs.Bounds.{factorial, Limit}
 
 pub factorial-pos : (k : ℕ) → 0 < factorial k
 factorial-pos zero = omega arith
