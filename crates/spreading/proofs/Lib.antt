@@ -1,2 +1,3 @@
--- `Distances`: laws of distance, and the search going up.
-pub mod Distances
+-- A file has the laws of the definitions in the file of its name in specs/.
+pub mod Minima
+pub mod Spreads

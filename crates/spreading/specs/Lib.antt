@@ -1,1 +1,3 @@
-pub mod Spread
+-- To be believed: `Spreads`. The other serves inside.
+pub mod Spreads
+pub mod Minima

@@ -4,7 +4,8 @@ ghost use mathlib.Core.Path.{_≡_};
 ghost use Prim.Native.Nat.{_≤_, _<_};
 ghost use lib.ListN.{length, getD};
 ghost use Rattle.triples.specs.Shuffles.{f, InRange};
-ghost use Rattle.spreading.specs.Spread.{distance, Lesser, Closest, Spread};
+ghost use Rattle.spreading.specs.Spreads.{distance, Spread};
+ghost use Rattle.spreading.specs.Minima.{Lesser, Closest};
 
 fn apart(a: u16, b: u16) -> u16
     ensures { λ r. ⌜ r ≡ distance a b ⌝ }

@@ -1,4 +1,4 @@
--- `lesser` meets its contract.
+-- The answer is a or b, as the test says.
 use mathlib.Core.Path.{refl}
 use mathlib.Core.Logic.{inl, inr}
 use native.Mathlib.Omega.{arith}

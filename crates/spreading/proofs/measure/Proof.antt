@@ -1,47 +1,26 @@
--- `measure` meets its contract.
+-- The answer rests on `table-spread`: the front of the table that was filled lists the addresses, and so its spread is theirs.
 use mathlib.Core.Path.{sym}
 use native.Mathlib.Omega.{arith}
-use lib.Seq.{length-take-le}
-use Rattle.spreading.proofs.Distances.{table-spread}
+use Rattle.numbers.proofs.Lists.{written-take}
+use Rattle.spreading.proofs.Spreads.{table-spread}
 use borrow.Author.Needs.{needs}
 use Rattle.spreading.proofs.measure.Statement.{statement}
 use Rattle.spreading.proofs.measure.Tie as tie
 
-cast-places : tie.Need-cast-places
-cast-places c = search needs
-
-fill-requires : tie.Need-fill-requires
-fill-requires c κs = search needs
-
-slice-reshare-prefix-search : tie.Need-slice-reshare-prefix-search
-slice-reshare-prefix-search c = search needs
-
 slice-aggregate-search : tie.Need-slice-aggregate-search
-slice-aggregate-search c =
-    let l = c .before .before .before .fill in
-    sym (length-take-le (c .before .before .before .before .before .before .before .args .t .k) (l .last .1 .1 .0) (omega (arith, l .ensures .size)))
+slice-aggregate-search c = sym (written-take (c .before .before .before .fill .ensures) (omega arith))
 
 search-requires : tie.Need-search-requires
-search-requires c κs =
-    let l = c .before .before .before .fill in
-    omega (arith, length-take-le (c .before .before .before .before .before .before .before .args .t .k) (l .last .1 .1 .0) (omega (arith, l .ensures .size)))
-
-same-length : tie.Need-same-length
-same-length c = search needs
+search-requires c κs = omega (arith, written-take (c .before .before .before .fill .ensures) (omega arith))
 
 returns : tie.Need-returns
 returns c =
-    let a = c .before .before .before .before .before .before .before .before in
-    table-spread (a .args .t) (c .before .before .before .before .fill .ensures) (a .pre .1) (c .search .ensures)
+    let filled = c .before .before .before .before in
+    let start = filled .before .before .before .before in
+    table-spread (start .args .t) (filled .fill .ensures) (start .pre .1) (c .search .ensures)
 
 pub measure-spec : {M : Type 1} → statement M
 measure-spec =
     tie.close
-    (tie.spec
-    cast-places
-    fill-requires
-    slice-reshare-prefix-search
-    slice-aggregate-search
-    search-requires
-    same-length
+    (tie.spec (λ c. search needs) (λ c κs. search needs) (λ c. search needs) slice-aggregate-search search-requires (λ c. search needs)
     returns)

@@ -1,4 +1,4 @@
--- Laws of the distance along the line, and of the search for the spread, which goes up.
+-- The search for the spread of a list, which goes up; and that the spread is one number.
 use mathlib.Core.Path.{_≡_, refl, sym, ap, ap₂, subst, _∙_}
 use mathlib.Core.Logic.{_⊎_, inl, inr}
 use mathlib.Core.List.{List}
@@ -6,48 +6,22 @@ use Prim.Native.Nat.{ℕ, _+_, _-_, _≤_, _<_}
 use native.Mathlib.Decide.{ℕ-discrete, decLt}
 use native.Mathlib.Omega.{arith}
 use lib.ListN.{length, getD, take}
-use lib.Seq.{getD-take, length-take-le}
+use lib.Seq.{getD-take}
+use Rattle.numbers.specs.Lists.{Written}
+use Rattle.numbers.proofs.Lists.{written-take}
 use Rattle.triples.specs.declared.Triple.{Triple}
-use Rattle.triples.specs.Shuffles.{f, Written}
-use Rattle.spreading.specs.Spread.{distance, Spreads, Spread, Lesser, Closest}
-
--- the distance of the entries at x and d further on
-abbrev pub gap : List ℕ → ℕ → ℕ → ℕ
-gap list d x = distance (getD list x 0) (getD list (x + d) 0)
-
--- ---- the least gap of the pairs below x
-pub record Least (list : List ℕ) (d x r : ℕ) : Type 0 where
-  pub below : (y : ℕ) → y < x → r ≤ gap list d y
-  pub at : ℕ
-  pub earlier : at < x
-  pub met : r ≡ gap list d at
-
-pub least-start : (list : List ℕ) (d r : ℕ) → r ≡ distance (getD list 0 0) (getD list d 0) → Least list d 1 r
-least-start list d r e =
-    record { below = λ y l. omega (arith, met, ap (gap list d) (zero-below y l)); at = 0; earlier = omega arith; met = met }
-  where
-    met : r ≡ gap list d 0
-    met = e ∙ ap (λ (n : ℕ). distance (getD list 0 0) (getD list n 0)) (omega arith)
-
-    zero-below : (y : ℕ) → y < 1 → y ≡ 0
-    zero-below y l = omega arith
-
-pub least-step : {list : List ℕ} {d x r : ℕ} {here r′ : ℕ} → Least list d x r → here ≡ gap list d x → Lesser r here r′ → Least list d (x + 1) r′
-least-step {list} {d} {x} {r} {here} {r′} s e l = pick (l .one)
-  where
-    below : (y : ℕ) → y < x + 1 → Dec (y ≡ x) → r′ ≤ gap list d y
-    below y h (yes w) = omega (arith, l .second, ap (gap list d) w)
-    below y h (no w) = omega (arith, l .first, s .below y (omega arith))
-
-    pick : (r′ ≡ r) ⊎ (r′ ≡ here) → Least list d (x + 1) r′
-    pick (inl w) = record { below = λ y h. below y h (ℕ-discrete y x); at = s .at; earlier = omega (arith, s .earlier); met = w ∙ s .met }
-    pick (inr w) = record { below = λ y h. below y h (ℕ-discrete y x); at = x; earlier = omega arith; met = w ∙ e }
-
-pub least-end : {list : List ℕ} {d x r : ℕ} → Least list d x r → x + d ≡ length list → Closest list d r
-least-end {list} {d} {x} s e =
-    record { below = λ y h. s .below y (omega arith); at = s .at; within = omega (arith, s .earlier); met = s .met }
+use Rattle.triples.specs.Shuffles.{f}
+use Rattle.spreading.specs.Spreads.{distance, Spreads, Spread}
+use Rattle.spreading.specs.Minima.{Lesser, gap, Closest}
 
 -- ---- the search
+
+-- what spreads the entries of a list, and their spread
+abbrev SpreadsIn : List ℕ → ℕ → Type 0
+SpreadsIn list s = Spreads (λ i. getD list i 0) (length list) s
+
+abbrev SpreadIn : List ℕ → ℕ → Type 0
+SpreadIn list s = Spread (λ i. getD list i 0) (length list) s
 
 -- two places less than s apart whose entries are r apart
 pub record Near (list : List ℕ) (s r : ℕ) : Type 0 where
@@ -57,6 +31,12 @@ pub record Near (list : List ℕ) (s r : ℕ) : Type 0 where
   pub less : step < s
   pub within : at + step < length list
   pub met : r ≡ gap list step at
+
+near-more : {list : List ℕ} {s r : ℕ} → Near list s r → Near list (s + 1) r
+near-more n = record { at = n .at; step = n .step; some = n .some; less = omega (arith, n .less); within = n .within; met = n .met }
+
+near-closest : {list : List ℕ} {s r : ℕ} → 1 ≤ s → Closest list s r → Near list (s + 1) r
+near-closest {s = s} low c = record { at = c .at; step = s; some = low; less = omega arith; within = c .within; met = c .met }
 
 -- entries at places less than s apart are at least `least` apart, which is at least s
 pub record Searching (list : List ℕ) (s least : ℕ) : Type 0 where
@@ -91,13 +71,12 @@ search-step {list} {s} {least} {near} {least′} g h c n l =
     far x d p m w (no e) = omega (arith, l .second, g .far x d p (omega arith) w)
 
     met : (least′ ≡ near) ⊎ (least′ ≡ least) → (least ≡ length list) ⊎ Near list s least → (least′ ≡ length list) ⊎ Near list (s + 1) least′
-    met (inl e) o = inr (record { at = c .at; step = s; some = omega (arith, g .low); less = omega arith; within = c .within; met = e ∙ c .met })
+    met (inl e) o = inr (rw e (near-closest (g .low) c))
     met (inr e) (inl o) = inl (e ∙ o)
-    met (inr e) (inr o) =
-        inr (record { at = o .at; step = o .step; some = o .some; less = omega (arith, o .less); within = o .within; met = e ∙ o .met })
+    met (inr e) (inr o) = inr (rw e (near-more o))
 
 -- what holds of places apart holds of any two different places
-far-spreads : {list : List ℕ} {s least : ℕ} → Searching list s least → Spreads (λ i. getD list i 0) (length list) s
+far-spreads : {list : List ℕ} {s least : ℕ} → Searching list s least → SpreadsIn list s
 far-spreads {list} {s} {least} g x y lx ly ne near = pick (decLt x y)
   where
     up : (a b : ℕ) → a < b → b < length list → b - a < s → s ≤ distance (getD list a 0) (getD list b 0)
@@ -110,7 +89,7 @@ far-spreads {list} {s} {least} g x y lx ly ne near = pick (decLt x y)
     pick (no l) = omega (arith, up y x (omega arith) lx (omega arith))
 
 -- two near places leave no larger spread
-near-largest : (list : List ℕ) (s r : ℕ) → Near list (s + 1) r → r ≤ s → (q : ℕ) → Spreads (λ i. getD list i 0) (length list) q → q ≤ s
+near-largest : (list : List ℕ) (s r : ℕ) → Near list (s + 1) r → r ≤ s → (q : ℕ) → SpreadsIn list q → q ≤ s
 near-largest list s r n h q spreads = pick (decLt s q)
   where
     pick : Dec (s < q) → q ≤ s
@@ -119,26 +98,22 @@ near-largest list s r n h q spreads = pick (decLt s q)
         (omega (arith, n .met, spreads (n .at) (n .at + n .step) (omega (arith, n .within)) (n .within) (λ e. omega (arith, n .some)) (omega (arith, n .less))))
     pick (no l) = omega arith
 
-found : {list : List ℕ} {s least : ℕ} → Searching list s least → ((q : ℕ) → q ≤ length list → Spreads (λ i. getD list i 0) (length list) q → q ≤ s)
-    → Spread (λ i. getD list i 0) (length list) s
+found : {list : List ℕ} {s least : ℕ} → Searching list s least → ((q : ℕ) → q ≤ length list → SpreadsIn list q → q ≤ s)
+    → SpreadIn list s
 found g largest = record { low = g .low; high = omega (arith, g .fits, g .top); spreads = far-spreads g; largest = largest }
 
 -- two places s apart with entries at most s apart
-pub search-near : {list : List ℕ} {s least near : ℕ} → Searching list s least → Closest list s near → near ≤ s → Spread (λ i. getD list i 0) (length list) s
+pub search-near : {list : List ℕ} {s least near : ℕ} → Searching list s least → Closest list s near → near ≤ s → SpreadIn list s
 search-near {list} {s} {least} {near} g c h =
-    found g
-    (λ q _ spreads. near-largest list s near
-    (record { at = c .at; step = s; some = omega (arith, g .low); less = omega arith; within = c .within; met = c .met }) h q spreads)
+    found g (λ q _ spreads. near-largest list s near (near-closest (g .low) c) h q spreads)
 
 -- the least distance so far is met
-pub search-met : {list : List ℕ} {s least : ℕ} → Searching list s least → least ≤ s → Spread (λ i. getD list i 0) (length list) s
+pub search-met : {list : List ℕ} {s least : ℕ} → Searching list s least → least ≤ s → SpreadIn list s
 search-met {list} {s} {least} g h = found g (largest (g .met))
   where
-    largest : (least ≡ length list) ⊎ Near list s least → (q : ℕ) → q ≤ length list → Spreads (λ i. getD list i 0) (length list) q → q ≤ s
+    largest : (least ≡ length list) ⊎ Near list s least → (q : ℕ) → q ≤ length list → SpreadsIn list q → q ≤ s
     largest (inl e) q l _ = omega arith
-    largest (inr n) q _ spreads =
-        near-largest list s least
-        (record { at = n .at; step = n .step; some = n .some; less = omega (arith, n .less); within = n .within; met = n .met }) h q spreads
+    largest (inr n) q _ spreads = near-largest list s least (near-more n) h q spreads
 
 -- ---- the spread is one number, and depends on the addresses alone
 
@@ -160,7 +135,7 @@ spread-same {φ} {ψ} {n} {s} e a =
 -- ---- the spread of a triple, from the front of a table that lists its addresses
 
 pub table-spread : (t : Triple) {s : ℕ} {before table : List ℕ} → Written (f t) (t .k) before table → t .k ≤ length before
-    → Spread (λ i. getD (take (t .k) table) i 0) (length (take (t .k) table)) s → Spread (f t) (t .k) s
+    → SpreadIn (take (t .k) table) s → Spread (f t) (t .k) s
 table-spread t {s} {before} {table} l fits spread =
     spread-same (λ x h. getD-take (t .k) table x 0 h ∙ l .entries x h)
-    (subst (λ (n : ℕ). Spread (λ i. getD (take (t .k) table) i 0) n s) (length-take-le (t .k) table (omega (arith, l .size))) spread)
+    (subst (λ (n : ℕ). Spread (λ i. getD (take (t .k) table) i 0) n s) (written-take l fits) spread)
