@@ -6,8 +6,8 @@ use native.Mathlib.Nat.{dvd-trans, mod-mod-of-dvd}
 use native.Mathlib.Decide.{ℕ-discrete}
 use native.Mathlib.Omega.{arith}
 use Rattle.numbers.specs.Divisors.{Coprime, Prime}
-use Rattle.numbers.specs.Congruence.{Cong}
-use Rattle.numbers.proofs.Dividing.{dvd-make, euclid, coprime-dvd, coprime-swap}
+use Rattle.numbers.specs.Congruences.{Cong}
+use Rattle.numbers.proofs.Divisors.{dvd-make, euclid, coprime-dvd, coprime-swap}
 use Rattle.numbers.proofs.Congruences.{cong-eq, cong-sym, cong-same, same-cong, cong-add, cong-divisor, _⨾_}
 use Rattle.numbers.proofs.Primes.{absorbed-primes, primes-absorbed}
 use Rattle.triples.specs.declared.Triple.{Triple}

@@ -6,9 +6,11 @@ use native.Mathlib.Nat.{dvd-refl, dvd-zero, dvd-mul-right, dvd-mul-right-of-dvd,
 use native.Mathlib.Decide.{ℕ-discrete}
 use native.Mathlib.Omega.{arith}
 use mathlib.Core.Bool.{Bool, true, false}
-use Rattle.numbers.specs.Divisors.{IsGcd, Coprime, Absorbed, Decides}
-use Rattle.numbers.proofs.Dividing.{factors-pos, dvd-make, quotient, euclid, unit-of, Unit-of, gcd-one, gcd-of}
-use Rattle.numbers.proofs.Absorbing.{Rest, rest-of, coprime-plus}
+use Rattle.numbers.specs.Divisors.{IsGcd, Coprime}
+use Rattle.numbers.specs.Absorption.{Absorbed}
+use Rattle.numbers.specs.Decision.{Decides}
+use Rattle.numbers.proofs.Divisors.{factors-pos, dvd-make, quotient, euclid, unit-of, Unit-of, gcd-one, gcd-of}
+use Rattle.numbers.proofs.Absorption.{Rest, rest-of, coprime-plus}
 use Rattle.triples.specs.declared.Triple.{Triple}
 use Rattle.permuting.specs.Formulas.{Permutes}
 use Rattle.triples.specs.Shuffles.{f, InRange, Shuffle, oddForm, quadratic}

@@ -1,7 +1,7 @@
 // Which triples are shuffles.
 use triples::Triple;
 ghost use mathlib.Core.Path.{_≡_};
-ghost use Rattle.numbers.specs.Divisors.{Decides};
+ghost use Rattle.numbers.specs.Decision.{Decides};
 ghost use Rattle.permuting.specs.Formulas.{Permutes};
 ghost use Rattle.triples.specs.Shuffles.{quadratic, InRange, oddForm};
 

@@ -6,7 +6,7 @@ use native.Mathlib.Nat.{dvd-refl, dvd-mul-right-of-dvd, dvd-add, dvd-add-iff-lef
 use native.Mathlib.Decide.{ℕ-discrete}
 use native.Mathlib.Omega.{arith}
 use Rattle.numbers.specs.Divisors.{IsGcd}
-use Rattle.numbers.proofs.Dividing.{dvd-make, quotient, gcd-exact}
+use Rattle.numbers.proofs.Divisors.{dvd-make, quotient, gcd-exact}
 use Rattle.numbers.proofs.Congruences.{cong-eq, cong-same, same-cong, cong-zero, zero-cong, cong-add, cong-cancel, _⨾_}
 use Rattle.triples.specs.declared.Triple.{Triple}
 use Rattle.arp.specs.Arp.{Repeats, Divided, Period}

@@ -8,8 +8,9 @@ use lib.ListN.{getD}
 use Rattle.numbers.specs.Divisors.{Coprime}
 use Rattle.numbers.proofs.Congruences.{cong-eq, cong-sym, cong-same, cong-add, cong-mod, _⨾_}
 use Rattle.triples.specs.declared.Triple.{Triple}
-use Rattle.triples.specs.Shuffles.{triple, f, Shuffle, Written, oddForm}
-use Rattle.triples.proofs.Rows.{written-one}
+use Rattle.triples.specs.Shuffles.{triple, f, Shuffle, oddForm}
+use Rattle.numbers.specs.Lists.{Written}
+use Rattle.numbers.proofs.Lists.{written-one}
 use Rattle.acceptance.proofs.Rule.{OddUnit, odd-unit}
 use Rattle.arp.specs.Arp.{shift, Repeats, Period, ArpNumbers, Arp}
 

@@ -5,7 +5,8 @@ use Prim.Native.Nat.{ℕ, _+_, _*_, _%_, _≤_, _<_, _∣_}
 use lib.ListN.{getD}
 use Rattle.numbers.specs.Divisors.{Coprime}
 use Rattle.triples.specs.declared.Triple.{Triple}
-use Rattle.triples.specs.Shuffles.{f, oddForm, Written}
+use Rattle.triples.specs.Shuffles.{f, oddForm}
+use Rattle.numbers.specs.Lists.{Written}
 
 -- The shift of j: f2·j² mod K.
 abbrev pub shift : Triple → ℕ → ℕ

@@ -2,7 +2,8 @@
 use triples::Triple;
 ghost use Prim.Native.Nat.{_≤_};
 ghost use lib.ListN.{length};
-ghost use Rattle.triples.specs.Shuffles.{InRange, Written};
+ghost use Rattle.triples.specs.Shuffles.{InRange};
+ghost use Rattle.numbers.specs.Lists.{Written};
 ghost use Rattle.arp.specs.Arp.{shift, Period};
 ghost use Rattle.arp.specs.Forms.{FormOf};
 

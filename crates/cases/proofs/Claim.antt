@@ -8,12 +8,12 @@ use native.Mathlib.Omega.{arith}
 use lib.Dec.{T, eqb}
 use lib.ListN.{length, getD, replicate, length-append}
 use Rattle.permuting.specs.Blocks.{Direction, interleave, deinterleave, marks-of, MovedBlock}
-use Rattle.permuting.proofs.Keeping.{cleared-front}
-use Rattle.polynomials.proofs.Checking.{inverse-test}
-use Rattle.polynomials.proofs.Answering.{inverted-by-test}
+use Rattle.permuting.proofs.Scratch.{cleared-front}
+use Rattle.polynomials.proofs.Instances.{inverse-test}
+use Rattle.polynomials.proofs.Instances.{inverted-by-test}
 use Rattle.triples.specs.declared.Triple.{Triple}
 use Rattle.triples.specs.Shuffles.{triple, f, quadratic, Shuffle}
-use Rattle.triples.proofs.Rows.{written-front}
+use Rattle.numbers.proofs.Lists.{written-front}
 use Rattle.arp.specs.Arp.{shift, Period}
 use Rattle.arp.proofs.Periods.{period-double}
 use Rattle.arp.proofs.Shifting.{arp-form, period-one}

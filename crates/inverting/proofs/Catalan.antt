@@ -6,9 +6,9 @@ use Prim.Native.Nat.{ℕ, _+_, _*_, _^_, _<_}
 use native.Mathlib.Omega.{arith}
 use lib.Dec.{eqb, eqb→eq}
 use lib.ListN.{getD}
-use Rattle.numbers.specs.Congruence.{Cong}
+use Rattle.numbers.specs.Congruences.{Cong}
 use Rattle.numbers.proofs.Congruences.{cong-eq, _⨾_}
-use Rattle.polynomials.proofs.Filling.{passes}
+use Rattle.numbers.proofs.Computation.{passes}
 use Rattle.polynomials.proofs.Naturals.{valueℕ, add, add-value, scale, multiply, multiply-value, cong-before}
 use Rattle.inverting.specs.Series.{catalan}
 

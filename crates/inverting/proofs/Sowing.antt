@@ -9,10 +9,10 @@ use native.Mathlib.Decide.{decLt}
 use lib.ListN.{length, getD, set, replicate, length-set, List·getD-eq-default}
 use lib.Pow.{pow-add}
 use lib.Seq.{getD-set-other}
-use Rattle.numbers.specs.Congruence.{Cong}
+use Rattle.numbers.specs.Congruences.{Cong}
 use Rattle.numbers.proofs.Congruences.{cong-eq, cong-sym, _⨾_, cong-mul, cong-times, cong-mod}
 use Rattle.polynomials.specs.Reductions.{Ends, AtMost}
-use Rattle.polynomials.proofs.Filling.{filled-more}
+use Rattle.numbers.proofs.Lists.{filled-more}
 use Rattle.inverting.specs.Series.{catalan, term, Series}
 
 -- x is the term at the place i, up to multiples of k, and leaves room in 32 bits

@@ -6,10 +6,11 @@ use Prim.Native.Nat.{ℕ, zero, suc, _+_, _*_, _-_, _%_, _^_}
 use native.Mathlib.Nat.{mod-lt, mod-eq-of-lt, le-mul-of-pos-right}
 use native.Mathlib.Omega.{arith}
 use lib.ListN.{getD}
-use Rattle.numbers.specs.Congruence.{Cong}
-use Rattle.numbers.proofs.Dividing.{euclid}
-use Rattle.numbers.proofs.Congruences.{cong-eq, cong-sym, _⨾_, cong-add, cong-mul, cong-times, cong-cancel, cong-mod, cong-same, cong-zero, zero-cong, pow-times, reciprocal-coprime}
-use Rattle.numbers.proofs.Absorbing.{power-absorbed, coprime-plus}
+use Rattle.numbers.specs.Congruences.{Cong}
+use Rattle.numbers.proofs.Divisors.{euclid}
+use Rattle.numbers.proofs.Congruences.{cong-eq, cong-sym, _⨾_, cong-add, cong-mul, cong-times, cong-cancel, cong-mod, cong-same, cong-zero, zero-cong, pow-times}
+use Rattle.numbers.proofs.Reciprocals.{reciprocal-coprime}
+use Rattle.numbers.proofs.Absorption.{power-absorbed, coprime-plus}
 use Rattle.polynomials.specs.Polynomials.{wholes}
 use Rattle.polynomials.specs.Inverses.{Undoes}
 use Rattle.polynomials.proofs.Naturals.{valueℕ, scale, scale-place, scale-value, dilate, dilate-place, dilate-value, cong-value, cong-places}

@@ -1,6 +1,6 @@
 -- Serves inside: what the series asks of an odd form.
 use Prim.Native.Nat.{ℕ, _^_, _≤_, _<_, _∣_}
-use Rattle.numbers.specs.Congruence.{Reciprocal}
+use Rattle.numbers.specs.Reciprocals.{Reciprocal}
 use Rattle.triples.specs.declared.Triple.{Triple}
 
 -- f has an inverse: f1 has the reciprocal r, and every prime of K divides f2. None stands in K, at most 2 to the 13th, more than

@@ -3,7 +3,7 @@ use mathlib.Core.Path.{_≡_}
 use mathlib.Core.List.{List, [], _∷_}
 use Prim.Native.Nat.{ℕ, zero, suc, _*_, _-_, _^_}
 use lib.ListN.{getD}
-use Rattle.numbers.specs.Congruence.{Cong}
+use Rattle.numbers.specs.Congruences.{Cong}
 use Rattle.polynomials.specs.Reductions.{AtMost}
 
 -- The Catalan numbers C(0) to C(12).

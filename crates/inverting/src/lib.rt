@@ -3,7 +3,7 @@ mod terms;
 
 ghost use mathlib.Core.Path.{_≡_};
 ghost use lib.ListN.{length, drop};
-ghost use Rattle.numbers.specs.Congruence.{Reciprocal};
+ghost use Rattle.numbers.specs.Reciprocals.{Reciprocal};
 ghost use Rattle.triples.specs.Shuffles.{f, Shuffle, oddForm};
 ghost use Rattle.polynomials.specs.Inverses.{Inverted};
 use triples::Triple;

@@ -9,7 +9,8 @@ pub mod words; // blocks of signed 16-bit values
 
 ghost use Prim.Native.Nat.{_/_, _≤_, _<_};
 ghost use lib.ListN.{length};
-ghost use Rattle.permuting.specs.Marks.{Cleared, Followed};
+ghost use Rattle.permuting.specs.Bitmap.{Followed};
+ghost use Rattle.permuting.specs.Scratch.{Cleared};
 ghost use Rattle.permuting.specs.Blocks.{marks-of};
 ghost use Rattle.maps.specs.Maps.{to, Sound};
 use maps::Map;

@@ -2,7 +2,7 @@
 use mathlib.Core.List.{List}
 use Prim.Native.Nat.{ℕ, _+_, _/_}
 use Rattle.permuting.specs.Permutations.{Interleaved, Deinterleaved}
-use Rattle.permuting.specs.Marks.{Cleared}
+use Rattle.permuting.specs.Scratch.{Cleared}
 
 pub data Direction : Type 0 where
   interleave : Direction

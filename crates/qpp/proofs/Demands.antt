@@ -5,7 +5,7 @@ use mathlib.Core.List.{List}
 use Prim.Native.Nat.{ℕ, _≤_, _<_}
 use lib.IntN.{ℤ, pos}
 use Rattle.polynomials.specs.Polynomials.{value, coefficient, Below, Congruent}
-use Rattle.polynomials.specs.Limits.{Within}
+use Rattle.polynomials.specs.Bounds.{Within}
 use Rattle.polynomials.specs.Inverses.{Undoes, from-first}
 use Rattle.triples.specs.declared.Triple.{Triple}
 use Rattle.triples.specs.Shuffles.{f}

@@ -2,11 +2,11 @@
 use mathlib.Core.Path.{_≡_, sym, _∙_}
 use mathlib.Core.List.{List, []}
 use Prim.Native.Nat.{ℕ}
-use Rattle.numbers.proofs.Congruences.{reciprocal-one}
-use Rattle.polynomials.proofs.Answering.{inverted-one}
+use Rattle.numbers.proofs.Reciprocals.{reciprocal-one}
+use Rattle.polynomials.proofs.Inverses.{inverted-one}
 use Rattle.arp.proofs.Shifting.{arp-one}
-use Rattle.spreading.proofs.Distances.{spread-one}
-use Rattle.triples.proofs.Rows.{written-one}
+use Rattle.spreading.proofs.Spreads.{spread-one}
+use Rattle.numbers.proofs.Lists.{written-one}
 use Rattle.permuting.specs.Formulas.{Formula}
 use Rattle.triples.specs.declared.Triple.{Triple}
 use Rattle.triples.specs.Shuffles.{oddForm}

@@ -3,14 +3,15 @@ use mathlib.Core.Path.{_≡_}
 use mathlib.Core.List.{List, [], _∷_}
 use Prim.Native.Nat.{ℕ}
 use lib.ListN.{length, replicate}
-use Rattle.numbers.specs.Congruence.{Reciprocal}
+use Rattle.numbers.specs.Reciprocals.{Reciprocal}
 use Rattle.permuting.specs.Formulas.{Formula}
 use Rattle.permuting.specs.Blocks.{Direction, marks-of, MovedBlock}
 use Rattle.triples.specs.declared.Triple.{Triple}
-use Rattle.triples.specs.Shuffles.{f, quadratic, oddForm, Written}
+use Rattle.triples.specs.Shuffles.{f, quadratic, oddForm}
+use Rattle.numbers.specs.Lists.{Written}
 use Rattle.polynomials.specs.Inverses.{Inverted}
 use Rattle.arp.specs.Arp.{Period, Arp}
-use Rattle.spreading.specs.Spread.{Spread}
+use Rattle.spreading.specs.Spreads.{Spread}
 use Rattle.refusals.specs.Refusals.{Answer, shuffle-tests, block-tests, no-position, no-list}
 use Rattle.qpp.specs.declared.shuffles.Value.{Value}
 use Rattle.qpp.specs.declared.inverses.InverseForm.{InverseForm}

@@ -2,7 +2,7 @@
 use mathlib.Core.Path.{subst₂, ap, _∙_}
 use Prim.Native.Nat.{ℕ}
 use borrow.Author.Needs.{needs}
-use Rattle.numbers.specs.Congruence.{Reciprocal}
+use Rattle.numbers.specs.Reciprocals.{Reciprocal}
 use Rattle.triples.specs.declared.Triple.{Triple}
 use Rattle.acceptance.proofs.Rule.{odd-unit}
 use Rattle.inverting.proofs.reciprocal.Statement.{statement}

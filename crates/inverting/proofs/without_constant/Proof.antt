@@ -7,7 +7,7 @@ use native.Mathlib.Omega.{arith}
 use lib.ListN.{length, getD, drop, length-drop}
 use lib.Seq.{ext-getD, getD-drop}
 use borrow.Author.Needs.{needs}
-use Rattle.polynomials.proofs.Filling.{filled-more}
+use Rattle.numbers.proofs.Lists.{filled-more}
 use Rattle.inverting.proofs.without_constant.Statement.{statement}
 use Rattle.inverting.proofs.without_constant.Tie as tie
 

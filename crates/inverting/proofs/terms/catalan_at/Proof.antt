@@ -5,7 +5,7 @@ use Prim.Native.Nat.{ℕ, _<_}
 use lib.Dec.{ltb, ltb→lt}
 use lib.ListN.{getD}
 use borrow.Author.Needs.{needs}
-use Rattle.polynomials.proofs.Filling.{passes}
+use Rattle.numbers.proofs.Computation.{passes}
 use Rattle.inverting.specs.Series.{catalan}
 use Rattle.inverting.proofs.terms.catalan_at.Statement.{statement}
 use Rattle.inverting.proofs.terms.catalan_at.Tie as tie

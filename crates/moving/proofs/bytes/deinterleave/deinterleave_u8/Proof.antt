@@ -4,7 +4,7 @@ use mathlib.Core.Path.{refl}
 use Prim.Native.Nat.{_-_}
 use native.Mathlib.Omega.{arith}
 use Rattle.permuting.specs.Blocks.{deinterleave}
-use Rattle.permuting.proofs.Movers.{Between, Cycle, unseen, between-begin, cycle-enter, cycle-fewer, deinterleave-on, deinterleave-back}
+use Rattle.permuting.proofs.Traversal.{Between, Cycle, unseen, between-begin, cycle-enter, cycle-fewer, deinterleave-on, deinterleave-back}
 use Rattle.maps.specs.Maps.{to}
 use Rattle.moving.proofs.Returns.{moved}
 use Rattle.moving.proofs.bytes.deinterleave.deinterleave_u8.Statement.{statement}

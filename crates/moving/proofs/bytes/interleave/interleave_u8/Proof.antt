@@ -6,7 +6,7 @@ use mathlib.Core.Path.{refl}
 use Prim.Native.Nat.{_-_}
 use native.Mathlib.Omega.{arith}
 use Rattle.permuting.specs.Blocks.{interleave}
-use Rattle.permuting.proofs.Movers.{Between, Cycle, unseen, between-begin, cycle-enter, cycle-fewer, interleave-on, interleave-back}
+use Rattle.permuting.proofs.Traversal.{Between, Cycle, unseen, between-begin, cycle-enter, cycle-fewer, interleave-on, interleave-back}
 use Rattle.maps.specs.Maps.{to}
 use Rattle.moving.proofs.Returns.{moved}
 use Rattle.moving.proofs.bytes.interleave.interleave_u8.Statement.{statement}
