@@ -2,6 +2,7 @@
 use cards::Line;
 ghost use Prim.Native.Nat.{_+_, _≤_};
 ghost use lib.ListN.{length};
+ghost use Rattle.cards.specs.Cards.{room};
 
 // Writes the cards at the start of the buffer, and answers whether all of them were written.
 fn write_cards(out: &[u8], end: usize) -> bool
@@ -18,8 +19,8 @@ struct Room {
 
 // Empties a buffer that may have no room for another card.
 fn make_room(out: &[u8], end: usize) -> Room
-    requires { ⌜ (end ≤ length (now out)) × (256 ≤ length (now out)) ⌝ }
-    ensures { λ r. ⌜ r .end + 256 ≤ length (now (out .entry)) ⌝ }
+    requires { ⌜ (end ≤ length (now out)) × (room ≤ length (now out)) ⌝ }
+    ensures { λ r. ⌜ r .end + room ≤ length (now (out .entry)) ⌝ }
 {
     if out.len() - end >= cards::ROOM {
         return Room { going: true, end };
@@ -38,7 +39,7 @@ struct Progress {
 
 // Takes a whole piece of the input.
 fn take(piece: &[u8], unended: Line, out: &mut [u8], at: usize) -> Progress
-    requires { ⌜ (at ≤ length (now out)) × (256 ≤ length (now out)) ⌝ }
+    requires { ⌜ (at ≤ length (now out)) × (room ≤ length (now out)) ⌝ }
     ensures { λ r. ⌜ r .end ≤ length (now (out .entry)) ⌝ }
 {
     let mut line = unended;
@@ -67,7 +68,7 @@ fn take(piece: &[u8], unended: Line, out: &mut [u8], at: usize) -> Progress
 
 // Writes what is left at the end of the input, and answers whether all of it was written.
 fn finish(line: Line, out: &mut [u8], at: usize) -> bool
-    requires { ⌜ (at ≤ length (now out)) × (256 ≤ length (now out)) ⌝ }
+    requires { ⌜ (at ≤ length (now out)) × (room ≤ length (now out)) ⌝ }
 {
     let room = make_room(out, at);
     if !room.going {
@@ -85,7 +86,7 @@ struct Failures {
 // A proved loop has to end, and nothing says that the input does. So the loop counts its turns down, from a
 // number that no run uses up.
 fn run(piece: &mut [u8], out: &mut [u8]) -> Failures
-    requires { ⌜ 256 ≤ length (now out) ⌝ }
+    requires { ⌜ room ≤ length (now out) ⌝ }
 {
     let mut line = Line::new();
     let mut end = 0;

@@ -1,13 +1,10 @@
--- `Appending`: texts one after the other. `Decimals`, `Spelling`: the text of a number. `Digiting`: digits and their value.
--- `Searching`: the number at the front of a text. `Readings`: a line reads in one way. `Rows`: the parts of a card. `Telling`: the
--- card of a line, and no second one. `Held`: a line of which the first bytes are held. `Flow`: the pieces of the input.
-pub mod Appending
+-- `Buffers`: texts one after the other. `Numerals`: digits and what they stand for. `Decimals`: the text of a number. `Grammar`: the
+-- number at the front of a text, and that a line reads in one way. `Contents`: what a card tells, and no second card. `Storage`: a
+-- line of which the first bytes are kept. `Pieces`: the pieces of the input.
+pub mod Buffers
+pub mod Numerals
 pub mod Decimals
-pub mod Digiting
-pub mod Spelling
-pub mod Searching
-pub mod Readings
-pub mod Rows
-pub mod Telling
-pub mod Held
-pub mod Flow
+pub mod Grammar
+pub mod Contents
+pub mod Storage
+pub mod Pieces

@@ -1,4 +1,4 @@
--- The number that stands at the front of a text. These are definitions.
+-- Serves inside: the number that stands at the front of a text.
 use mathlib.Core.Path.{_≡_}
 use mathlib.Core.Logic.{_≢_}
 use mathlib.Core.List.{List, [], _∷_, _++_}

@@ -1,4 +1,4 @@
--- Numbers and lines as text. A byte is a number. These are definitions.
+-- To be believed: numbers as text, and text in a buffer. A byte is a number.
 use mathlib.Core.Path.{_≡_}
 use mathlib.Core.Bool.{cond}
 use mathlib.Core.List.{List, [], _∷_, _++_}
@@ -29,22 +29,29 @@ abbrev pub spelt : ℕ → List ℕ → ℕ
 spelt n [] = n
 spelt n (byte ∷ more) = spelt (10 * n + (byte - 48)) more
 
+abbrev pub most-digits : ℕ
+most-digits = 5
+
 -- The text is 1 to 5 digits that stand for n.
 pub record Number (text : List ℕ) (n : ℕ) : Type 0 where
   pub digits : Digits text
   pub some : 1 ≤ length text
-  pub few : length text ≤ 5
+  pub few : length text ≤ most-digits
   pub stands-for : n ≡ spelt 0 text
 
--- The line, without its newline, is three numbers with one space between them.
-pub record Reads (line : List ℕ) (k f1 f2 : ℕ) : Type 0 where
+-- The text is the number n, a space, and such a rest.
+pub record Begins (n : ℕ) (Such : List ℕ → Type 0) (text : List ℕ) : Type 0 where
   pub first : List ℕ
-  pub second : List ℕ
-  pub third : List ℕ
-  pub split : line ≡ first ++ (space ∷ (second ++ (space ∷ third)))
-  pub is-first : Number first k
-  pub is-second : Number second f1
-  pub is-third : Number third f2
+  pub rest : List ℕ
+  pub split : text ≡ first ++ (space ∷ rest)
+  pub number : Number first n
+  pub such : Such rest
+
+-- The text is these numbers, one or more, with one space between them.
+abbrev pub Lists : List ℕ → List ℕ → Type 0
+Lists [] text = ⊥
+Lists (n ∷ []) text = Number text n
+Lists (n ∷ m ∷ more) text = Begins n (Lists (m ∷ more)) text
 
 -- ---- writing
 
@@ -66,8 +73,30 @@ abbrev pub fields : List ℕ → List ℕ
 fields [] = []
 fields (n ∷ more) = space ∷ (decimal n ++ fields more)
 
+-- The numbers with one space between them.
+abbrev pub listing : List ℕ → List ℕ
+listing [] = []
+listing (n ∷ more) = decimal n ++ fields more
+
+-- A space and the ten digits of the largest number.
+abbrev pub field-room : ℕ
+field-room = 11
+
+-- ---- in a buffer
+
 -- The text was written at a place of a buffer, up to `end`, and every other byte is as it was.
 pub record Appended (before : List ℕ) (at : ℕ) (text after : List ℕ) (end : ℕ) : Type 0 where
   pub bytes : after ≡ take at before ++ (text ++ drop end before)
   pub size : end ≡ at + length text
   pub fits : end ≤ length before
+
+-- The same, and the text has at most so many bytes.
+pub record AppendedWithin (most : ℕ) (before : List ℕ) (at : ℕ) (text after : List ℕ) (end : ℕ) : Type 0 where
+  pub written : Appended before at text after end
+  pub short : end ≤ at + most
+
+-- Such a text was written.
+pub record Wrote (Such : List ℕ → Type 0) (before : List ℕ) (at : ℕ) (after : List ℕ) (end : ℕ) : Type 0 where
+  pub text : List ℕ
+  pub such : Such text
+  pub written : Appended before at text after end

@@ -1,12 +1,13 @@
-// Three numbers from a line, which may hold any bytes, and any number of them.
+// A triple from a line, which may hold any bytes, and any number of them.
+use triples::Triple;
 ghost use mathlib.Core.Path.{_≡_};
 ghost use mathlib.Core.List.{_∷_, []};
 ghost use Prim.Native.Nat.{_≤_};
 ghost use lib.ListN.{length, drop};
 ghost use Rattle.numbers.specs.Divisors.{Decides};
-ghost use Rattle.cards.specs.Texts.{space, Digit, Digits, spelt};
+ghost use Rattle.cards.specs.Texts.{space, Digit, Digits, spelt, most-digits};
 ghost use Rattle.cards.specs.Fronts.{Run, Search, Anything, Spaced, NoMore};
-ghost use Rattle.cards.specs.Reading.{nothing-read, ReadAs};
+ghost use Rattle.cards.specs.Cards.{nothing-read, ReadAs};
 
 const MOST_DIGITS: usize = 5;
 
@@ -37,7 +38,7 @@ fn run(text: &[u8]) -> usize
 }
 
 fn value(digits: &[u8]) -> u32
-    requires { ⌜ Digits (now digits) × (length (now digits) ≤ 5) ⌝ }
+    requires { ⌜ Digits (now digits) × (length (now digits) ≤ most-digits) ⌝ }
     ensures { λ n. ⌜ n ≡ spelt 0 (now (digits .entry)) ⌝ }
 {
     let mut n: u32 = 0;
@@ -117,12 +118,10 @@ fn from(text: &[u8], at: usize) -> &[u8]
     &text[at..]
 }
 
-// The three numbers of a line, and zeros where it is not readable.
+// The triple of a line, and zeros where it is not readable.
 pub struct Reading {
     pub readable: bool,
-    pub k: u32,
-    pub f1: u32,
-    pub f2: u32,
+    pub triple: Triple,
 }
 
 fn unreadable() -> Reading
@@ -130,9 +129,7 @@ fn unreadable() -> Reading
 {
     Reading {
         readable: false,
-        k: 0,
-        f1: 0,
-        f2: 0,
+        triple: Triple { k: 0, f1: 0, f2: 0 },
     }
 }
 
@@ -155,8 +152,10 @@ pub fn read(line: &[u8]) -> Reading
     }
     Reading {
         readable: true,
-        k: first.n,
-        f1: second.n,
-        f2: third.n,
+        triple: Triple {
+            k: first.n,
+            f1: second.n,
+            f2: third.n,
+        },
     }
 }

@@ -1,9 +1,11 @@
 // Cards for an input that arrives in pieces of any size, into a buffer that is emptied now and then.
 use crate::lines::Line;
 use crate::writing::word;
+ghost use mathlib.Core.List.{[], _∷_};
 ghost use Prim.Native.Nat.{_+_, _≤_};
 ghost use lib.ListN.{length};
-ghost use Rattle.cards.specs.Output.{ByteTaken, FedBy, Finished};
+ghost use Rattle.cards.specs.Cards.{room};
+ghost use Rattle.cards.specs.Output.{Output, WroteFor, Prints, FedBy};
 
 // Enough for any card.
 pub const ROOM: usize = 256;
@@ -15,8 +17,8 @@ struct Progress {
 }
 
 fn take_byte(line: Line, byte: u8, out: &mut [u8], at: usize) -> Progress
-    requires { ⌜ at + 256 ≤ length (now out) ⌝ }
-    ensures { λ r. ⌜ ByteTaken line byte (r .line) (now (out .entry)) at (now (out .exit)) (r .end) ⌝ }
+    requires { ⌜ at + room ≤ length (now out) ⌝ }
+    ensures { λ r. ⌜ WroteFor (Prints (byte ∷ []) (r .line)) line (now (out .entry)) at (now (out .exit)) (r .end) ⌝ }
 {
     if byte == b'\n' {
         let end = line.card(out, at);
@@ -57,8 +59,8 @@ pub fn feed(piece: &[u8], unended: Line, out: &mut [u8], at: usize) -> Fed
 
 // At the end of the input: a last line without its newline is not a line of the form asked for, whatever it holds.
 pub fn finish(line: Line, out: &mut [u8], at: usize) -> usize
-    requires { ⌜ at + 256 ≤ length (now out) ⌝ }
-    ensures { λ end. ⌜ Finished line (now (out .entry)) at (now (out .exit)) end ⌝ }
+    requires { ⌜ at + room ≤ length (now out) ⌝ }
+    ensures { λ end. ⌜ WroteFor (λ seen. Output seen []) line (now (out .entry)) at (now (out .exit)) end ⌝ }
 {
     if line.size == 0 {
         return at;

@@ -2,7 +2,7 @@
 ghost use mathlib.Core.List.{[], _∷_};
 ghost use Prim.Native.Nat.{_+_, _≤_, _<_};
 ghost use lib.ListN.{length};
-ghost use Rattle.cards.specs.Texts.{space, decimal, Appended};
+ghost use Rattle.cards.specs.Texts.{space, decimal, field-room, Appended, AppendedWithin};
 
 pub fn byte(out: &mut [u8], at: usize, byte: u8) -> usize
     requires { ⌜ at < length (now out) ⌝ }
@@ -42,15 +42,15 @@ fn digits(out: &mut [u8], at: usize, n: u32) -> usize
 // A number takes at most ten bytes.
 pub fn number(out: &mut [u8], at: usize, n: u32) -> usize
     requires { ⌜ at + 10 ≤ length (now out) ⌝ }
-    ensures { λ end. ⌜ Appended (now (out .entry)) at (decimal n) (now (out .exit)) end × (end ≤ at + 10) ⌝ }
+    ensures { λ end. ⌜ AppendedWithin 10 (now (out .entry)) at (decimal n) (now (out .exit)) end ⌝ }
 {
     digits(out, at, n)
 }
 
 // A space and a number.
 pub fn field(out: &mut [u8], at: usize, n: u32) -> usize
-    requires { ⌜ at + 11 ≤ length (now out) ⌝ }
-    ensures { λ end. ⌜ Appended (now (out .entry)) at (space ∷ decimal n) (now (out .exit)) end × (end ≤ at + 11) ⌝ }
+    requires { ⌜ at + field-room ≤ length (now out) ⌝ }
+    ensures { λ end. ⌜ AppendedWithin field-room (now (out .entry)) at (space ∷ decimal n) (now (out .exit)) end ⌝ }
 {
     let start = byte(out, at, b' ');
     number(out, start, n)

@@ -1,29 +1,20 @@
--- `begin` meets its contract.
+-- `begin`: the numbers of the triple one after the other, each in the room of a field at most.
 use native.Mathlib.Omega.{arith}
-use Rattle.cards.proofs.Rows.{appended-begin}
+use Rattle.cards.proofs.Buffers.{appended-then, appended-last}
 use borrow.Author.Needs.{needs}
 use Rattle.cards.proofs.composing.begin.Statement.{statement}
 use Rattle.cards.proofs.composing.begin.Tie as tie
-
-number-requires : tie.Need-number-requires
-number-requires c κs = search needs
-
-field-requires : tie.Need-field-requires
-field-requires c κs = search needs
-
-field-requires-2 : tie.Need-field-requires-2
-field-requires-2 c κs = search needs
-
-same-length : tie.Need-same-length
-same-length c = search needs
 
 returns : tie.Need-returns
 returns c =
     let third = c .before .before in
     let second = third .before .before .before .before in
     let first = second .before .before .before .before in
-    (appended-begin _ _ _ (first .number .ensures .0) (second .field .ensures .0) (third .field2 .ensures .0), omega (arith, first .number .ensures .1, second .field .ensures .1))
+    record {
+      written = appended-then (first .number .ensures .written) (appended-then (second .field .ensures .written) (appended-last (third .field2 .ensures .written)));
+      short = omega (arith, first .number .ensures .short, second .field .ensures .short);
+    }
 
 pub begin-spec : {M : Type 1} → statement M
 begin-spec =
-    tie.close (tie.spec number-requires field-requires field-requires-2 same-length returns)
+    tie.close (tie.spec (λ c κs. search needs) (λ c κs. search needs) (λ c κs. search needs) (λ c. search needs) returns)

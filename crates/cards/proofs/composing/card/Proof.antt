@@ -1,32 +1,14 @@
--- `card` meets its contract.
-use Rattle.cards.proofs.Telling.{card-unreadable}
+-- `card`: what `read` answers says which kind of card it is.
+use Rattle.cards.proofs.Contents.{card-readable, card-unreadable}
 use borrow.Author.Needs.{needs}
 use Rattle.cards.proofs.composing.card.Statement.{statement}
 use Rattle.cards.proofs.composing.card.Tie as tie
-
-read-requires : tie.Need-read-requires
-read-requires c κs = search needs
-
-of-triple-requires : tie.Need-of-triple-requires
-of-triple-requires c κs = search needs
-
-same-length : tie.Need-same-length
-same-length c = search needs
 
 returns : tie.Need-returns
 returns c =
     let o = c .before .before in
     let r = o .before .before .before in
-    o .of-triple .ensures _ (r .read .ensures .readable (o .before .before .if1 .taken))
-
-slice-aggregate-word : tie.Need-slice-aggregate-word
-slice-aggregate-word c = search needs
-
-word-requires : tie.Need-word-requires
-word-requires c κs = search needs
-
-same-length-2 : tie.Need-same-length-2
-same-length-2 c = search needs
+    card-readable (r .read .ensures .readable (o .before .before .if1 .taken)) (o .of-triple .ensures)
 
 returns-2 : tie.Need-returns-2
 returns-2 c =
@@ -38,11 +20,11 @@ pub card-spec : {M : Type 1} → statement M
 card-spec =
     tie.close
     (tie.spec
-    read-requires
-    of-triple-requires
-    same-length
+    (λ c κs. search needs)
+    (λ c κs. search needs)
+    (λ c. search needs)
     returns
-    slice-aggregate-word
-    word-requires
-    same-length-2
+    (λ c. search needs)
+    (λ c κs. search needs)
+    (λ c. search needs)
     returns-2)

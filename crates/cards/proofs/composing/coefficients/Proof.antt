@@ -1,47 +1,37 @@
--- `coefficients` meets its contract.
-use Prim.Native.Nat.{_-_, _≤_}
+-- `coefficients`: the first i coefficients are written, in the room of i fields at most. The coefficients left fall, so it ends.
+use Prim.Native.Nat.{_*_, _-_, _≤_}
 use native.Mathlib.Omega.{arith}
-use Rattle.cards.proofs.Appending.{appended-length}
-use Rattle.cards.proofs.Rows.{Listing, listing-start, listing-turn, listing-end}
+use lib.ListN.{take}
+use Rattle.cards.specs.Texts.{fields, field-room, AppendedWithin}
+use Rattle.cards.proofs.Buffers.{appended-length, fields-start, fields-turn, fields-whole}
 use borrow.Author.Needs.{needs}
 use Rattle.cards.proofs.composing.coefficients.Statement.{statement}
 use Rattle.cards.proofs.composing.coefficients.Tie as tie
 
 abbrev Inv-loop : tie.InvT-loop
-Inv-loop out₀ at degree a end₀ i₀ out end i = Listing a out₀ out at end i × (i ≤ degree)
+Inv-loop out₀ at degree a end₀ i₀ out end i = AppendedWithin (field-room * i) out₀ at (fields (take i a)) out end × (i ≤ degree)
 
 abbrev μ-loop : tie.MeasureT-loop
 μ-loop out₀ at degree a end₀ i₀ out end i = degree - i
 
 loop-holds : tie.Need-loop-holds Inv-loop μ-loop
-loop-holds c = (listing-start (c .before .args .t4) (omega arith), omega arith)
-
-mul-field : tie.Need-mul-field Inv-loop μ-loop
-mul-field c = search needs
-
-array-read-field : tie.Need-array-read-field Inv-loop μ-loop
-array-read-field c = search needs
+loop-holds c = (fields-start (c .before .args .t4) (omega arith), omega arith)
 
 field-requires : tie.Need-field-requires Inv-loop μ-loop
 field-requires c κs = let l = c .before .before .loop .inv .0 in omega (arith, l .short, appended-length (l .written))
-
-add-i : tie.Need-add-i Inv-loop μ-loop
-add-i c = search needs
-
-loop-less : tie.Need-loop-less Inv-loop μ-loop
-loop-less c = search needs
 
 loop-again : tie.Need-loop-again Inv-loop μ-loop
 loop-again c =
     let w = c .before .before in
     let l = w .before .before .before in
-    (listing-turn (l .loop .inv .0) (omega arith) (w .field .ensures .0) (w .field .ensures .1), omega arith)
+    (fields-turn (l .before .before .args .t4) (l .loop .i) (l .loop .inv .0) (omega arith) (w .field .ensures), omega arith)
 
 same-length : tie.Need-same-length Inv-loop μ-loop
 same-length c = appended-length (c .before .loop .inv .0 .written)
 
 returns : tie.Need-returns Inv-loop μ-loop
-returns c = listing-end {d = c .before .before .before .args .degree} (c .before .loop .inv .0) (omega arith) (omega arith)
+returns c = let s = c .before .before .before in
+    fields-whole (s .args .t4) (c .before .loop .i) (s .args .degree) (c .before .loop .inv .0) (omega arith) (omega arith)
 
 pub coefficients-spec : {M : Type 1} → statement M
 coefficients-spec =
@@ -50,11 +40,11 @@ coefficients-spec =
     Inv-loop
     μ-loop
     loop-holds
-    mul-field
-    array-read-field
+    (λ c. search needs)
+    (λ c. search needs)
     field-requires
-    add-i
-    loop-less
+    (λ c. search needs)
+    (λ c. search needs)
     loop-again
     same-length
     returns)

@@ -1,9 +1,9 @@
--- `facts_of` meets its contract.
+-- `facts_of`: an accepted triple is in range, and so is its odd form; with it each call answers, and does not refuse.
 use mathlib.Core.Path.{refl}
 use Rattle.triples.proofs.Forms.{in-form}
 use Rattle.arp.proofs.Shifting.{arp-numbers}
 use Rattle.qpp.proofs.Judging.{accepted}
-use Rattle.cards.proofs.Telling.{facts-are}
+use Rattle.cards.proofs.Contents.{facts-are}
 use borrow.Author.Needs.{needs}
 use Rattle.cards.proofs.composing.facts_of.Statement.{statement}
 use Rattle.cards.proofs.composing.facts_of.Tie as tie
@@ -14,12 +14,6 @@ odd-form-requires c κs = accepted (c .pre) refl .range
 numbers-of-requires : tie.Need-numbers-of-requires
 numbers-of-requires c κs = in-form (accepted (c .before .pre) refl .range) (c .odd-form .ensures)
 
-spread-requires : tie.Need-spread-requires
-spread-requires c κs = search needs
-
-inverse-requires : tie.Need-inverse-requires
-inverse-requires c κs = search needs
-
 returns : tie.Need-returns
 returns c =
     let s = c .before .before in
@@ -29,4 +23,4 @@ returns c =
 
 pub facts-of-spec : {M : Type 1} → statement M
 facts-of-spec =
-    tie.close (tie.spec odd-form-requires numbers-of-requires spread-requires inverse-requires returns)
+    tie.close (tie.spec odd-form-requires numbers-of-requires (λ c κs. search needs) (λ c κs. search needs) returns)

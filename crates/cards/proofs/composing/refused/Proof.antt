@@ -1,29 +1,8 @@
--- `refused` meets its contract.
-use mathlib.Core.List.{[], _∷_}
-use Rattle.cards.specs.Cards.{refused-word}
-use Rattle.cards.proofs.Appending.{appended-as}
-use Rattle.cards.proofs.Rows.{fields-one, appended-row}
+-- `refused`: what the four calls write, one after the other, is the row.
+use Rattle.cards.proofs.Buffers.{appended-then, appended-last}
 use borrow.Author.Needs.{needs}
 use Rattle.cards.proofs.composing.refused.Statement.{statement}
 use Rattle.cards.proofs.composing.refused.Tie as tie
-
-begin-requires : tie.Need-begin-requires
-begin-requires c κs = search needs
-
-slice-aggregate-word : tie.Need-slice-aggregate-word
-slice-aggregate-word c = search needs
-
-word-requires : tie.Need-word-requires
-word-requires c κs = search needs
-
-field-requires : tie.Need-field-requires
-field-requires c κs = search needs
-
-byte-requires : tie.Need-byte-requires
-byte-requires c κs = search needs
-
-same-length : tie.Need-same-length
-same-length c = search needs
 
 returns : tie.Need-returns
 returns c =
@@ -31,16 +10,16 @@ returns c =
     let last = end .before .before .before .before in
     let second = last .before .before .before .before in
     let first = second .before .before .before .before .before in
-    appended-row _ _ _ refused-word (_ ∷ []) (first .begin .ensures .0) (second .word .ensures) (appended-as (fields-one _) (last .field .ensures .0)) (end .byte .ensures)
+    appended-then (first .begin .ensures .written) (appended-then (second .word .ensures) (appended-then (appended-last (last .field .ensures .written)) (end .byte .ensures)))
 
 pub refused-spec : {M : Type 1} → statement M
 refused-spec =
     tie.close
     (tie.spec
-    begin-requires
-    slice-aggregate-word
-    word-requires
-    field-requires
-    byte-requires
-    same-length
+    (λ c κs. search needs)
+    (λ c. search needs)
+    (λ c κs. search needs)
+    (λ c κs. search needs)
+    (λ c κs. search needs)
+    (λ c. search needs)
     returns)

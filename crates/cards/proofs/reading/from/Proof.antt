@@ -1,4 +1,4 @@
--- `from` meets its contract.
+-- `from`: the part is as long as what is left, so it is all of it.
 use native.Mathlib.Omega.{arith}
 use Prim.Native.Nat.{_-_}
 use lib.ListN.{length, drop, length-drop}
@@ -7,15 +7,6 @@ use borrow.Author.Needs.{needs}
 use Rattle.cards.proofs.reading.from.Statement.{statement}
 use Rattle.cards.proofs.reading.from.Tie as tie
 
-sub-result : tie.Need-sub-result
-sub-result c = search needs
-
-part-result-start : tie.Need-part-result-start
-part-result-start c = search needs
-
-part-result-end : tie.Need-part-result-end
-part-result-end c = search needs
-
 returns : tie.Need-returns
 returns c =
     let text = c .before .args .text .now in
@@ -23,4 +14,4 @@ returns c =
     take-all (length text - at) (drop at text) (omega (arith, length-drop at text))
 
 pub from-spec : {M : Type 1} → statement M
-from-spec = tie.close (tie.spec sub-result part-result-start part-result-end returns)
+from-spec = tie.close (tie.spec (λ c. search needs) (λ c. search needs) (λ c. search needs) returns)

@@ -1,6 +1,6 @@
--- `is_digit` meets its contract.
+-- `is_digit`: each way out has tested one end of the digits, the last both.
 use native.Mathlib.Omega.{arith}
-use Rattle.cards.proofs.Digiting.{decides-yes, decides-no, no-digit-low, no-digit-high}
+use Rattle.cards.proofs.Numerals.{decides-yes, decides-no, no-digit-low, no-digit-high}
 use Rattle.cards.proofs.reading.is_digit.Statement.{statement}
 use Rattle.cards.proofs.reading.is_digit.Tie as tie
 

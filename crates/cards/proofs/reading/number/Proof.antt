@@ -1,23 +1,14 @@
--- `number` meets its contract.
+-- `number`: the run of digits at the front is the number, unless it has none or too many: then there is no number.
 use mathlib.Core.Path.{sym}
 use native.Mathlib.Omega.{arith}
 use lib.Seq.{length-take-le}
-use Rattle.cards.proofs.Searching.{no-number, run-front, search-none, search-found}
+use Rattle.cards.proofs.Grammar.{no-number, run-front, search-none, search-found}
 use borrow.Author.Needs.{needs}
 use Rattle.cards.proofs.reading.number.Statement.{statement}
 use Rattle.cards.proofs.reading.number.Tie as tie
 
-run-requires : tie.Need-run-requires
-run-requires c κs = search needs
-
-missing-requires : tie.Need-missing-requires
-missing-requires c κs = search needs
-
 returns : tie.Need-returns
 returns c = search-none _ (c .missing .ensures .0) (λ m other _. no-number (c .before .before .run .ensures) (λ some few. omega arith) m other)
-
-missing-requires-2 : tie.Need-missing-requires-2
-missing-requires-2 c κs = search needs
 
 returns-2 : tie.Need-returns-2
 returns-2 c = search-none _ (c .missing2 .ensures .0) (λ m other _. no-number (c .before .before .before .run .ensures) (λ some few. omega arith) m other)
@@ -39,10 +30,10 @@ pub number-spec : {M : Type 1} → statement M
 number-spec =
     tie.close
     (tie.spec
-    run-requires
-    missing-requires
+    (λ c κs. search needs)
+    (λ c κs. search needs)
     returns
-    missing-requires-2
+    (λ c κs. search needs)
     returns-2
     slice-aggregate-value
     value-requires

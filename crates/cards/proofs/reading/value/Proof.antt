@@ -1,10 +1,11 @@
--- `value` meets its contract.
+-- `value`: n is what the first i digits stand for, and i is at most their number. The digits left fall, so it ends.
+-- Before the last of five digits n is below 10,000, so no sum wraps.
 use mathlib.Core.Path.{_≡_}
 use Prim.Native.Nat.{_-_, _≤_, _<_}
 use native.Mathlib.Omega.{arith}
 use lib.ListN.{length, take}
 use Rattle.cards.specs.Texts.{spelt}
-use Rattle.cards.proofs.Digiting.{digits-at, value-small, value-turn, value-end}
+use Rattle.cards.proofs.Numerals.{digits-at, value-small, value-turn, value-end}
 use Rattle.cards.proofs.reading.value.Reads as reads
 use Rattle.cards.proofs.reading.value.Lts as lts
 use borrow.Author.Needs.{needs}
@@ -17,17 +18,11 @@ Inv-loop digits n₀ i₀ n i = (i ≤ length digits) × (n ≡ spelt 0 (take i 
 abbrev μ-loop : tie.MeasureT-loop
 μ-loop digits n₀ i₀ n i = length digits - i
 
-loop-holds : tie.Need-loop-holds Inv-loop μ-loop
-loop-holds c = search needs
-
 small : (c : lts.In-loop reads.Pre reads.Post Inv-loop μ-loop) → c .before .loop .n < 10000
 small c = value-small (c .before .before .args .digits .now) (c .before .loop .i) (c .before .loop .n) (c .before .before .pre .0) (omega arith) (c .before .before .pre .1) (c .before .loop .inv .1)
 
 mul-n : tie.Need-mul-n Inv-loop μ-loop
 mul-n c = omega (arith, small c)
-
-shared-slice-read-n : tie.Need-shared-slice-read-n Inv-loop μ-loop
-shared-slice-read-n c = search needs
 
 sub-n : tie.Need-sub-n Inv-loop μ-loop
 sub-n c = omega (arith, digits-at (c .before .before .before .args .digits .now) (c .before .before .loop .i) (c .before .before .before .pre .0) (omega arith) .low)
@@ -37,12 +32,6 @@ cast-n c = omega (arith, c .shared-slice-known .given (c .before .before .loop .
 
 add-n : tie.Need-add-n Inv-loop μ-loop
 add-n c = omega (arith, small (c .before), c .shared-slice-known .given (c .before .before .loop .i))
-
-add-i : tie.Need-add-i Inv-loop μ-loop
-add-i c = search needs
-
-loop-less : tie.Need-loop-less Inv-loop μ-loop
-loop-less c = search needs
 
 loop-again : tie.Need-loop-again Inv-loop μ-loop
 loop-again c = (omega arith, value-turn (c .before .before .before .args .digits .now) (c .before .before .loop .i) (c .before .before .loop .n) (c .before .before .loop .inv .1) (omega arith))
@@ -56,13 +45,13 @@ value-spec =
     (tie.spec
     Inv-loop
     μ-loop
-    loop-holds
+    (λ c. search needs)
     mul-n
-    shared-slice-read-n
+    (λ c. search needs)
     sub-n
     cast-n
     add-n
-    add-i
-    loop-less
+    (λ c. search needs)
+    (λ c. search needs)
     loop-again
     returns)

@@ -1,20 +1,14 @@
--- `whole` meets its contract.
-use Rattle.cards.proofs.Searching.{search-none, whole-found, whole-none}
+-- `whole`: a number is found with no rest, where the search got to the end, and only there.
+use Rattle.cards.proofs.Grammar.{search-none, whole-found, whole-none}
 use borrow.Author.Needs.{needs}
 use Rattle.cards.proofs.reading.whole.Statement.{statement}
 use Rattle.cards.proofs.reading.whole.Tie as tie
 
-number-requires : tie.Need-number-requires
-number-requires c κs = search needs
-
 returns : tie.Need-returns
 returns c = whole-found (c .before .before .number .ensures) (c .if1 .taken)
-
-missing-requires : tie.Need-missing-requires
-missing-requires c κs = search needs
 
 returns-2 : tie.Need-returns-2
 returns-2 c = search-none _ (c .missing .ensures .0) (whole-none (c .before .before .before .number .ensures) (c .before .if1 .left))
 
 pub whole-spec : {M : Type 1} → statement M
-whole-spec = tie.close (tie.spec number-requires returns missing-requires returns-2)
+whole-spec = tie.close (tie.spec (λ c κs. search needs) returns (λ c κs. search needs) returns-2)

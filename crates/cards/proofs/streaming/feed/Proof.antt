@@ -1,9 +1,11 @@
--- `feed` meets its contract.
+-- `feed`: the bytes taken so far have printed what they print, and nothing was written if none was taken. The bytes left fall,
+-- so it ends. It stops for want of room only after it took one, if there was room for a card at first.
 use Prim.Native.Nat.{_-_}
 use native.Mathlib.Omega.{arith}
 use lib.ListN.{length}
 use borrow.Author.Tests.{leb-true, leb-false}
-use Rattle.cards.proofs.Flow.{Feeding, feeding-start, feeding-turn, feeding-end, moved}
+use Rattle.cards.specs.Cards.{room}
+use Rattle.cards.proofs.Pieces.{Feeding, feeding-start, feeding-turn, feeding-end, moved}
 use borrow.Author.Needs.{needs}
 use Rattle.cards.proofs.streaming.feed.Statement.{statement}
 use Rattle.cards.proofs.streaming.feed.Tie as tie
@@ -17,22 +19,10 @@ abbrev μ-loop : tie.MeasureT-loop
 loop-holds : tie.Need-loop-holds Inv-loop μ-loop
 loop-holds c = feeding-start (c .before .before .pre)
 
-sub-if1 : tie.Need-sub-if1 Inv-loop μ-loop
-sub-if1 c = search needs
-
-shared-slice-read-take-byte : tie.Need-shared-slice-read-take-byte Inv-loop μ-loop
-shared-slice-read-take-byte c = search needs
-
 take-byte-requires : tie.Need-take-byte-requires Inv-loop μ-loop
 take-byte-requires c κs =
     let l = c .before .before .before .before in
-    omega (arith, leb-true 256 (length (l .loop .out) - l .loop .end) (c .before .before .if1 .taken), l .loop .inv .fits, l .loop .inv .size)
-
-add-taken : tie.Need-add-taken Inv-loop μ-loop
-add-taken c = search needs
-
-loop-less : tie.Need-loop-less Inv-loop μ-loop
-loop-less c = search needs
+    omega (arith, leb-true room (length (l .loop .out) - l .loop .end) (c .before .before .if1 .taken), l .loop .inv .took .fits, l .loop .inv .size)
 
 loop-again : tie.Need-loop-again Inv-loop μ-loop
 loop-again c =
@@ -44,13 +34,15 @@ same-length : tie.Need-same-length Inv-loop μ-loop
 same-length c = c .before .before .loop .inv .size
 
 returns : tie.Need-returns Inv-loop μ-loop
-returns c = feeding-end (c .before .before .loop .inv) (λ room some. moved (length (c .before .before .loop .out)) (c .before .before .loop .inv .unmoved) (leb-false _ _ (c .if1 .left)) (omega (arith, c .before .before .loop .inv .size)))
+returns c =
+    let l = c .before .before .loop in
+    feeding-end (l .inv) (λ enough some. moved (length (l .out)) (l .inv .unmoved) (leb-false _ _ (c .if1 .left)) (omega (arith, l .inv .size)))
 
 same-length-2 : tie.Need-same-length-2 Inv-loop μ-loop
 same-length-2 c = c .before .loop .inv .size
 
 returns-2 : tie.Need-returns-2 Inv-loop μ-loop
-returns-2 c = feeding-end (c .before .loop .inv) (λ room some. omega arith)
+returns-2 c = feeding-end (c .before .loop .inv) (λ enough some. omega arith)
 
 pub feed-spec : {M : Type 1} → statement M
 feed-spec =
@@ -59,11 +51,11 @@ feed-spec =
     Inv-loop
     μ-loop
     loop-holds
-    sub-if1
-    shared-slice-read-take-byte
+    (λ c. search needs)
+    (λ c. search needs)
     take-byte-requires
-    add-taken
-    loop-less
+    (λ c. search needs)
+    (λ c. search needs)
     loop-again
     same-length
     returns

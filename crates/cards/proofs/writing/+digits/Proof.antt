@@ -1,8 +1,8 @@
--- `digits` meets its contract: the number falls.
+-- `digits`: the last digit comes after those of the tenth; below ten it is the only one. The number falls, so it ends.
 use mathlib.Core.Path.{sym}
 use native.Mathlib.Omega.{arith}
 use lib.ListN.{length}
-use Rattle.cards.proofs.Appending.{appended-as, appended-byte, appended-then}
+use Rattle.cards.proofs.Buffers.{appended-as, appended-byte, appended-then}
 use Rattle.cards.proofs.Decimals.{decimal-one, decimal-more, decimal-more-length, decimal-length}
 use borrow.Author.Needs.{needs}
 use Prim.Native.Nat.{ℕ, _<_}

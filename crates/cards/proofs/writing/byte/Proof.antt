@@ -1,20 +1,11 @@
--- `byte` meets its contract.
-use Rattle.cards.proofs.Appending.{appended-byte}
+-- `byte`: a byte that is stored at its place is a text of one byte written there.
+use Rattle.cards.proofs.Buffers.{appended-byte}
 use borrow.Author.Needs.{needs}
 use Rattle.cards.proofs.writing.byte.Statement.{statement}
 use Rattle.cards.proofs.writing.byte.Tie as tie
-
-slice-write-out : tie.Need-slice-write-out
-slice-write-out c = search needs
-
-add-result : tie.Need-add-result
-add-result c = search needs
-
-same-length : tie.Need-same-length
-same-length c = search needs
 
 returns : tie.Need-returns
 returns c = appended-byte _ (c .pre)
 
 pub byte-spec : {M : Type 1} → statement M
-byte-spec = tie.close (tie.spec slice-write-out add-result same-length returns)
+byte-spec = tie.close (tie.spec (λ c. search needs) (λ c. search needs) (λ c. search needs) returns)

@@ -1,24 +1,15 @@
--- `field` meets its contract.
+-- `field`: a space, and the number after it.
 use native.Mathlib.Omega.{arith}
-use Rattle.cards.proofs.Appending.{appended-then}
+use Rattle.cards.proofs.Buffers.{appended-then}
 use borrow.Author.Needs.{needs}
 use Rattle.cards.proofs.writing.field.Statement.{statement}
 use Rattle.cards.proofs.writing.field.Tie as tie
-
-byte-requires : tie.Need-byte-requires
-byte-requires c κs = search needs
-
-number-requires : tie.Need-number-requires
-number-requires c κs = search needs
-
-same-length : tie.Need-same-length
-same-length c = search needs
 
 returns : tie.Need-returns
 returns c =
     let n = c .before .before in
     let b = n .before .before .before .before in
-    (appended-then (b .byte .ensures) (n .number .ensures .0), omega (arith, b .byte .ensures .size))
+    record { written = appended-then (b .byte .ensures) (n .number .ensures .written); short = omega (arith, b .byte .ensures .size) }
 
 pub field-spec : {M : Type 1} → statement M
-field-spec = tie.close (tie.spec byte-requires number-requires same-length returns)
+field-spec = tie.close (tie.spec (λ c κs. search needs) (λ c κs. search needs) (λ c. search needs) returns)

@@ -1,9 +1,9 @@
--- `word` meets its contract.
+-- `word`: the first i bytes of the text are written, and i is at most its length. The bytes left fall, so it ends.
 use Prim.Native.Nat.{_+_, _-_, _≤_}
 use native.Mathlib.Omega.{arith}
 use lib.ListN.{length, take}
 use Rattle.cards.specs.Texts.{Appended}
-use Rattle.cards.proofs.Appending.{appended-length, appended-start, appended-turn, appended-whole}
+use Rattle.cards.proofs.Buffers.{appended-length, appended-start, appended-turn, appended-whole}
 use borrow.Author.Needs.{needs}
 use Rattle.cards.proofs.writing.word.Statement.{statement}
 use Rattle.cards.proofs.writing.word.Tie as tie
@@ -17,26 +17,11 @@ abbrev μ-loop : tie.MeasureT-loop
 loop-holds : tie.Need-loop-holds Inv-loop μ-loop
 loop-holds c = (appended-start (c .args .text .now) (omega arith), omega arith)
 
-shared-slice-read-out : tie.Need-shared-slice-read-out Inv-loop μ-loop
-shared-slice-read-out c = search needs
-
-add-out : tie.Need-add-out Inv-loop μ-loop
-add-out c = search needs
-
 slice-write-out : tie.Need-slice-write-out Inv-loop μ-loop
 slice-write-out c = omega (arith, appended-length (c .before .before .loop .inv .0))
 
-add-i : tie.Need-add-i Inv-loop μ-loop
-add-i c = search needs
-
-loop-less : tie.Need-loop-less Inv-loop μ-loop
-loop-less c = search needs
-
 loop-again : tie.Need-loop-again Inv-loop μ-loop
 loop-again c = (appended-turn _ _ (c .before .before .loop .inv .0) (omega arith) (omega arith), omega arith)
-
-add-result : tie.Need-add-result Inv-loop μ-loop
-add-result c = search needs
 
 same-length : tie.Need-same-length Inv-loop μ-loop
 same-length c = appended-length (c .before .loop .inv .0)
@@ -51,12 +36,12 @@ word-spec =
     Inv-loop
     μ-loop
     loop-holds
-    shared-slice-read-out
-    add-out
+    (λ c. search needs)
+    (λ c. search needs)
     slice-write-out
-    add-i
-    loop-less
+    (λ c. search needs)
+    (λ c. search needs)
     loop-again
-    add-result
+    (λ c. search needs)
     same-length
     returns)

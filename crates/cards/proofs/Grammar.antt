@@ -1,16 +1,22 @@
--- One number stands at the front of a text, with one rest after it.
+-- One number stands at the front of a text, with one rest after it, and so a line reads in one way.
 use mathlib.Core.Path.{_≡_, refl, sym, ap, subst, _∙_}
 use mathlib.Core.Logic.{_≢_}
-use mathlib.Core.List.{List, [], _∷_, _++_}
-use Prim.Native.Nat.{ℕ, suc, _+_, _≤_, _<_}
+use mathlib.Core.Bool.{Bool, true, false}
+use mathlib.Core.List.{List, [], _∷_, _++_, append-nil}
+use Prim.Native.Nat.{ℕ, suc, _+_, _*_, _≤_, _<_}
 use native.Mathlib.Numerals.{add-one}
 use native.Mathlib.Decide.{ℕ-discrete}
 use native.Mathlib.Omega.{arith}
-use lib.ListN.{length, getD, take, drop, take-append-drop, drop-of-length-le, length-drop}
+use lib.ListN.{length, getD, take, drop, take-append-drop, drop-of-length-le, length-append, length-drop}
 use lib.Seq.{drop-cons, length-take-le}
-use Rattle.cards.specs.Texts.{space, Digits, spelt}
+use Rattle.triples.specs.declared.Triple.{Triple}
+use Rattle.triples.specs.Shuffles.{triple}
+use Rattle.cards.specs.declared.reading.Reading.{Reading}
+use Rattle.cards.specs.Texts.{space, Digits, spelt, most-digits, Number, Begins, Lists}
+use Rattle.cards.specs.Cards.{members, Reads, Unreadable, nothing-read, ReadAs}
+use Rattle.cards.specs.Output.{kept}
 use Rattle.cards.specs.Fronts.{Stops, Run, Front, Search, Anything, Spaced, NoMore}
-use Rattle.cards.proofs.Digiting.{no-digit-low}
+use Rattle.cards.proofs.Numerals.{no-digit-low, yes-or-no}
 
 -- digits end in one place
 digits-one : (a b : List ℕ) {x y : List ℕ} → Digits a → Digits b → Stops x → Stops y → a ++ x ≡ b ++ y → (a ≡ b) × (x ≡ y)
@@ -34,13 +40,13 @@ space-stops more = no-digit-low (omega arith)
 -- ---- the searches, as the code makes them
 
 -- too few digits or too many
-pub no-number : {text : List ℕ} {end : ℕ} → Run text end → (1 ≤ end → end ≤ 5 → ⊥) → (m : ℕ) (other : List ℕ) → ¬ Front text m other
+pub no-number : {text : List ℕ} {end : ℕ} → Run text end → (1 ≤ end → end ≤ most-digits → ⊥) → (m : ℕ) (other : List ℕ) → ¬ Front text m other
 no-number {text} {end} r few m other f =
     let e = digits-one (f .front) (take end text) (f .number .digits) (r .digits) (f .stops) (r .stops) (sym (f .split) ∙ sym (take-append-drop end text)) in
     let l : length (f .front) ≡ end = ap length (e .0) ∙ length-take-le end text (r .within) in
     few (omega (arith, f .number .some)) (omega (arith, f .number .few))
 
-pub run-front : {text : List ℕ} {end n : ℕ} → Run text end → end ≢ 0 → end ≤ 5 → n ≡ spelt 0 (take end text) → Front text n (drop end text)
+pub run-front : {text : List ℕ} {end n : ℕ} → Run text end → end ≢ 0 → end ≤ most-digits → n ≡ spelt 0 (take end text) → Front text n (drop end text)
 run-front {text} {end} {n} r some few e =
     let l = length-take-le end text (r .within) in
     record {
@@ -111,3 +117,76 @@ whole-none {text} {past} {n} s ne = pick (ℕ-discrete past 0)
     pick : Dec (past ≡ 0) → (m : ℕ) (other : List ℕ) → NoMore other → ¬ Front text m other
     pick (yes z) = none-such NoMore s z
     pick (no z) = other-rest NoMore s z (more-not-ended text past (omega (arith, s .within)))
+
+-- ---- a number, a space and such a rest
+
+-- what comes after the space is one text
+after-space : {text a b : List ℕ} {n m : ℕ} → Front text n (space ∷ a) → Front text m (space ∷ b) → a ≡ b
+after-space {text} {a} {b} p q = let e : space ∷ a ≡ space ∷ b = front-one p q .1 in cc
+
+module _ {Such : List ℕ → Type 0} {text : List ℕ} {n : ℕ} where
+  pub begins-front : (b : Begins n Such text) → Front text n (space ∷ b .rest)
+  begins-front b = record { front = b .first; number = b .number; split = b .split; stops = space-stops (b .rest) }
+
+  pub begins : {a : List ℕ} → Front text n (space ∷ a) → Such a → Begins n Such text
+  begins {a} p such = record { first = p .front; rest = a; split = p .split; number = p .number; such = such }
+
+  pub begins-rest : {a : List ℕ} {m : ℕ} → Begins n Such text → Front text m (space ∷ a) → Such a
+  begins-rest b p = subst Such (after-space (begins-front b) p) (b .such)
+
+pub number-front : {text : List ℕ} {n : ℕ} → Number text n → Front text n []
+number-front {text} w = record { front = text; number = w; split = sym (append-nil text); stops = tt }
+
+pub front-number : {text : List ℕ} {n : ℕ} → Front text n [] → Number text n
+front-number {text} {n} p = subst (λ (l : List ℕ). Number l n) (sym (p .split ∙ append-nil (p .front))) (p .number)
+
+-- ---- numbers with one space between them
+
+-- one number is the whole text, or is not
+one-or-more : {text : List ℕ} {n m : ℕ} {Such : List ℕ → Type 0} → Number text n → Begins m Such text → ⊥
+one-or-more p b = let z = ap length (front-one (number-front p) (begins-front b) .1) in omega arith
+
+-- a text lists one row of numbers
+lists-one : (a b text : List ℕ) → Lists a text → Lists b text → a ≡ b
+lists-one [] b text p q = absurd p
+lists-one (n ∷ []) [] text p q = absurd q
+lists-one (n ∷ m ∷ a) [] text p q = absurd q
+lists-one (n ∷ []) (n′ ∷ []) text p q = ap (λ (x : ℕ). x ∷ []) (p .stands-for ∙ sym (q .stands-for))
+lists-one (n ∷ []) (n′ ∷ m′ ∷ b) text p q = absurd (one-or-more p q)
+lists-one (n ∷ m ∷ a) (n′ ∷ []) text p q = absurd (one-or-more q p)
+lists-one (n ∷ m ∷ a) (n′ ∷ m′ ∷ b) text p q =
+    let e : n ≡ n′ = front-one (begins-front p) (begins-front q) .0 in
+    let w : m ∷ a ≡ m′ ∷ b = lists-one (m ∷ a) (m′ ∷ b) (p .rest) (p .such) (begins-rest q (begins-front p)) in
+    cc
+
+lists-short : (numbers text : List ℕ) → Lists numbers text → length text < (most-digits + 1) * length numbers
+lists-short [] text p = absurd p
+lists-short (n ∷ []) text p = omega (arith, p .few)
+lists-short (n ∷ m ∷ more) text p =
+    let e : length text ≡ length (p .first) + length (space ∷ p .rest) = ap length (p .split) ∙ length-append (p .first) (space ∷ p .rest) in
+    omega (arith, p .number .few, lists-short (m ∷ more) (p .rest) (p .such))
+
+-- ---- a line
+
+pub reads-one : {line : List ℕ} {t u : Triple} → Reads line t → Reads line u → t ≡ u
+reads-one {line} {t} {u} p q = ap (λ (l : List ℕ). triple (getD l 0 0) (getD l 1 0) (getD l 2 0)) (lists-one (members t) (members u) line (p .lists) (q .lists))
+
+pub reads-short : {line : List ℕ} {t : Triple} → Reads line t → length line < kept
+reads-short {line} {t} r = lists-short (members t) line (r .lists)
+
+pub readable-as : {line : List ℕ} {r : Reading} → r .readable ≡ true → Reads line (r .triple) → ReadAs line r
+readable-as e w = record { readable = λ _. w; unreadable = λ z. absurd (yes-or-no e z) }
+
+pub unreadable-as : {line : List ℕ} {r : Reading} → r ≡ nothing-read → Unreadable line → ReadAs line r
+unreadable-as e none =
+    record { readable = λ z. absurd (yes-or-no z (ap (λ (s : Reading). s .readable) e)); unreadable = λ _. (none, e) }
+
+-- no second answer fits
+pub read-one : {line : List ℕ} {r s : Reading} → ReadAs line r → ReadAs line s → r ≡ s
+read-one {line} {r} {s} a b = pick (r .readable) refl (s .readable) refl
+  where
+    pick : (p : Bool) → r .readable ≡ p → (q : Bool) → s .readable ≡ q → r ≡ s
+    pick true e true w = λ i. record { readable = (e ∙ sym w) i; triple = reads-one (a .readable e) (b .readable w) i }
+    pick true e false w = absurd (b .unreadable w .0 (r .triple) (a .readable e))
+    pick false e true w = absurd (a .unreadable e .0 (s .triple) (b .readable w))
+    pick false e false w = a .unreadable e .1 ∙ sym (b .unreadable w .1)

@@ -1,4 +1,4 @@
--- Laws of digits and of what they stand for.
+-- Digits, and what they stand for.
 use mathlib.Core.Path.{_≡_, refl, sym, ap, subst, _∙_}
 use mathlib.Core.Bool.{Bool, true, false}
 use mathlib.Core.List.{List, [], _∷_, _++_}
@@ -8,9 +8,9 @@ use native.Mathlib.Omega.{arith}
 use lib.ListN.{length, getD, take, drop-of-length-le}
 use lib.Seq.{drop-cons, take-all, length-take-le}
 use Rattle.numbers.specs.Divisors.{Decides}
-use Rattle.cards.specs.Texts.{Digit, Digits, spelt}
+use Rattle.cards.specs.Texts.{Digit, Digits, spelt, most-digits}
 use Rattle.cards.specs.Fronts.{Stops, Run}
-use Rattle.cards.proofs.Appending.{take-next}
+use Rattle.cards.proofs.Buffers.{take-next}
 
 pub yes-or-no : {b : Bool} → b ≡ true → b ≡ false → ⊥
 yes-or-no p q = let z : _≡_ {A = ℕ} 0 1 = cc in omega arith
@@ -70,7 +70,7 @@ value-below n (b ∷ text) (d, more) =
 pub value-turn : (text : List ℕ) (i n : ℕ) → n ≡ spelt 0 (take i text) → i < length text → 10 * n + (getD text i 0 - 48) ≡ spelt 0 (take (i + 1) text)
 value-turn text i n e h = sym (ap (spelt 0) (take-next text i h) ∙ value-then 0 (take i text) (getD text i 0) ∙ ap (λ (v : ℕ). 10 * v + (getD text i 0 - 48)) (sym e))
 
-pub value-small : (text : List ℕ) (i n : ℕ) → Digits text → i < length text → length text ≤ 5 → n ≡ spelt 0 (take i text) → n < 10000
+pub value-small : (text : List ℕ) (i n : ℕ) → Digits text → i < length text → length text ≤ most-digits → n ≡ spelt 0 (take i text) → n < 10000
 value-small text i n d h l e =
     let w = value-below 0 (take i text) (digits-take text i d) in
     let p = pow-le-pow-right {n = 10} (omega arith) {i = length (take i text)} {j = 4} (omega (arith, length-take-le i text (omega arith))) in

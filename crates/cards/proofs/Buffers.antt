@@ -1,12 +1,14 @@
--- Laws of texts that are written one after the other.
+-- Texts that are written into a buffer, one after the other.
 use mathlib.Core.Path.{_≡_, refl, sym, ap, subst, _∙_}
-use mathlib.Core.List.{List, [], _∷_, _++_, append-assoc}
-use Prim.Native.Nat.{ℕ, _+_, _≤_, _<_}
+use mathlib.Core.List.{List, [], _∷_, _++_, append-assoc, append-nil}
+use Prim.Native.Nat.{ℕ, _+_, _*_, _≤_, _<_}
 use native.Mathlib.Numerals.{add-one}
 use native.Mathlib.Omega.{arith}
 use lib.ListN.{length, getD, set, take, drop, length-append, length-drop, take-append-drop}
 use lib.Seq.{length-take-le, take-at, drop-append-add, drop-drop, set-split, take-suc, take-all}
-use Rattle.cards.specs.Texts.{Appended}
+use Rattle.cards.specs.declared.composing.Facts.{Facts}
+use Rattle.cards.specs.Texts.{space, decimal, fields, field-room, Appended, AppendedWithin, Wrote}
+use Rattle.cards.specs.Cards.{told}
 
 -- one element more
 pub take-next : (l : List ℕ) (i : ℕ) → i < length l → take (i + 1) l ≡ take i l ++ (getD l i 0 ∷ [])
@@ -63,6 +65,20 @@ appended-then {a} {b} {c} {at} {mid} {end} {s} {t} p q =
 pub appended-as : {a b : List ℕ} {at end : ℕ} {s t : List ℕ} → s ≡ t → Appended a at s b end → Appended a at t b end
 appended-as {a} {b} {at} {end} e p = subst (λ (l : List ℕ). Appended a at l b end) e p
 
+-- nothing comes after it
+pub appended-last : {a b : List ℕ} {at end : ℕ} {s : List ℕ} → Appended a at s b end → Appended a at (s ++ []) b end
+appended-last {s = s} p = appended-as (sym (append-nil s)) p
+
+-- ---- a text that is such
+
+pub wrote-as : {P Q : List ℕ → Type 0} {before after : List ℕ} {at end : ℕ} → ((text : List ℕ) → P text → Q text) → Wrote P before at after end → Wrote Q before at after end
+wrote-as g w = record { text = w .text; such = g (w .text) (w .such); written = w .written }
+
+-- one such text, and so one buffer and one end
+pub wrote-one : {P : List ℕ → Type 0} {before a b : List ℕ} {at end end′ : ℕ} → ((s t : List ℕ) → P s → P t → s ≡ t)
+    → Wrote P before at a end → Wrote P before at b end′ → (a ≡ b) × (end ≡ end′)
+wrote-one one p q = appended-one (p .written) (appended-as (one (q .text) (p .text) (q .such) (p .such)) (q .written))
+
 -- ---- a text that is copied byte by byte
 
 pub appended-start : {before : List ℕ} {at : ℕ} (text : List ℕ) → at ≤ length before → Appended before at (take 0 text) before (at + 0)
@@ -76,3 +92,33 @@ appended-turn {before} {out} {at} i text a h room =
 
 pub appended-whole : {before out : List ℕ} {at : ℕ} (i : ℕ) (text : List ℕ) → Appended before at (take i text) out (at + i) → length text ≤ i → Appended before at text out (at + i)
 appended-whole {before} {out} {at} i text a h = appended-as (take-all i text h) a
+
+-- ---- numbers, a space before each
+
+fields-then : (a b : List ℕ) → fields (a ++ b) ≡ fields a ++ fields b
+fields-then [] b = refl
+fields-then (n ∷ a) b = ap (λ (l : List ℕ). space ∷ (decimal n ++ l)) (fields-then a b) ∙ ap (λ (l : List ℕ). space ∷ l) (sym (append-assoc (decimal n) (fields a) (fields b)))
+
+pub fields-start : (numbers : List ℕ) {before : List ℕ} {at : ℕ} → at ≤ length before → AppendedWithin (field-room * 0) before at (fields (take 0 numbers)) before at
+fields-start numbers h = record { written = appended-none h; short = omega arith }
+
+pub fields-turn : (numbers : List ℕ) (i : ℕ) {before out after : List ℕ} {at end end′ : ℕ} → AppendedWithin (field-room * i) before at (fields (take i numbers)) out end → i < length numbers
+    → AppendedWithin field-room out end (space ∷ decimal (getD numbers i 0)) after end′
+    → AppendedWithin (field-room * (i + 1)) before at (fields (take (i + 1) numbers)) after end′
+fields-turn numbers i p h q =
+    record {
+      written = appended-as (sym (ap fields (take-next numbers i h) ∙ fields-then (take i numbers) (getD numbers i 0 ∷ []))) (appended-then (p .written) (appended-last (q .written)));
+      short = omega (arith, p .short, q .short);
+    }
+
+pub fields-whole : (numbers : List ℕ) (i count : ℕ) {before out : List ℕ} {at end : ℕ} → AppendedWithin (field-room * i) before at (fields (take i numbers)) out end → i ≡ count → count ≤ 13
+    → AppendedWithin (13 * field-room) before at (fields (take count numbers)) out end
+fields-whole numbers i count p e h =
+    record { written = appended-as (ap (λ (n : ℕ). fields (take n numbers)) e) (p .written); short = omega (arith, p .short) }
+
+pub fields-told : {before o1 o2 o3 o4 o5 : List ℕ} {at e1 e2 e3 e4 e5 : ℕ} (r : Facts) → Appended before at (space ∷ decimal (r .degree)) o1 e1
+    → Appended o1 e1 (fields (take (r .degree) (r .a))) o2 e2 → Appended o2 e2 (space ∷ decimal (r .p)) o3 e3 → Appended o3 e3 (space ∷ decimal (r .q)) o4 e4
+    → Appended o4 e4 (space ∷ decimal (r .spread)) o5 e5 → Appended before at (fields (told r)) o5 e5
+fields-told r d c p q s =
+    appended-then d
+    (appended-as (sym (fields-then (take (r .degree) (r .a)) (r .p ∷ r .q ∷ r .spread ∷ []))) (appended-then c (appended-then p (appended-then q (appended-last s)))))
