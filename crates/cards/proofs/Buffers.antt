@@ -7,8 +7,9 @@ use native.Mathlib.Omega.{arith}
 use lib.ListN.{length, getD, set, take, drop, length-append, length-drop, take-append-drop}
 use lib.Seq.{length-take-le, take-at, drop-append-add, drop-drop, set-split, take-suc, take-all}
 use Rattle.cards.specs.declared.composing.Facts.{Facts}
-use Rattle.cards.specs.Texts.{space, decimal, fields, field-room, Appended, AppendedWithin, Wrote}
+use Rattle.cards.specs.Texts.{space, decimal, fields, Appended, Wrote}
 use Rattle.cards.specs.Cards.{told}
+use Rattle.cards.specs.Widths.{field-room, AppendedWithin}
 
 -- one element more
 pub take-next : (l : List ℕ) (i : ℕ) → i < length l → take (i + 1) l ≡ take i l ++ (getD l i 0 ∷ [])
@@ -21,7 +22,7 @@ appended-length {before} {at} {text} {after} {end} a =
     ap length (a .bytes) ∙ simp (length-append, length-drop) (omega (arith, a .size, a .fits))
 
 -- one buffer and one end fit a text
-pub appended-one : {before : List ℕ} {at : ℕ} {text a b : List ℕ} {end end′ : ℕ} → Appended before at text a end → Appended before at text b end′
+appended-one : {before : List ℕ} {at : ℕ} {text a b : List ℕ} {end end′ : ℕ} → Appended before at text a end → Appended before at text b end′
     → (a ≡ b) × (end ≡ end′)
 appended-one {before} {at} {text} p q =
     let e = p .size ∙ sym (q .size) in

@@ -1,7 +1,7 @@
 -- What a card tells of a shuffle, and that no second card fits.
 use mathlib.Core.Path.{_≡_, refl, sym, ap, subst, subst₂, _∙_}
 use mathlib.Core.Logic.{_≢_}
-use mathlib.Core.List.{List, [], _∷_, _++_}
+use mathlib.Core.List.{List, [], _∷_}
 use Prim.Native.Nat.{ℕ}
 use Rattle.triples.specs.declared.Triple.{Triple}
 use Rattle.triples.specs.Shuffles.{f}
@@ -16,8 +16,8 @@ use Rattle.qpp.specs.declared.inverses.InverseForm.{InverseForm}
 use Rattle.qpp.specs.Promises.{Acceptance, SpreadOf, InverseOf}
 use Rattle.qpp.proofs.Determined.{acceptance-one}
 use Rattle.cards.specs.declared.composing.Facts.{Facts}
-use Rattle.cards.specs.Texts.{newline, Appended, Wrote}
-use Rattle.cards.specs.Cards.{Reads, Unreadable, unreadable-word, refused-word, ok-word, row, FactsOf, told, TripleCard, refused, accepted, CardOf, unreadable, readable}
+use Rattle.cards.specs.Texts.{Appended, Wrote}
+use Rattle.cards.specs.Cards.{Reads, Unreadable, unreadable-card, refused-word, ok-word, row, FactsOf, told, TripleCard, refused, accepted, CardOf, unreadable, readable}
 use Rattle.cards.proofs.Buffers.{wrote-as, wrote-one}
 use Rattle.cards.proofs.Grammar.{reads-one}
 
@@ -37,8 +37,8 @@ acceptance-zero {t} a e = subst (λ (n : ℕ). Acceptance t n) e a
 -- ---- the kinds of card, as they are written
 
 module _ {before after : List ℕ} {at end : ℕ} where
-  pub card-unreadable : {line : List ℕ} → Unreadable line → Appended before at (unreadable-word ++ (newline ∷ [])) after end → Wrote (CardOf line) before at after end
-  card-unreadable none w = record { text = unreadable-word ++ (newline ∷ []); such = unreadable none refl; written = w }
+  pub card-unreadable : {line : List ℕ} → Unreadable line → Appended before at unreadable-card after end → Wrote (CardOf line) before at after end
+  card-unreadable none w = record { text = unreadable-card; such = unreadable none refl; written = w }
 
   pub card-readable : {line : List ℕ} {t : Triple} → Reads line t → Wrote (TripleCard t) before at after end → Wrote (CardOf line) before at after end
   card-readable {line} {t} r w = wrote-as (λ text c. readable t r c) w

@@ -12,18 +12,18 @@ use Rattle.cards.specs.Texts.{Digits, spelt, Number, last-digit, decimal
 use Rattle.cards.proofs.Numerals.{digits-then, value-then}
 
 -- below ten, one digit
-pub decimals-one : (more n : ℕ) → n < 10 → decimals more n ≡ last-digit n
+decimals-one : (more n : ℕ) → n < 10 → decimals more n ≡ last-digit n
 unfolding decimals
 decimals-one zero n h = refl
 decimals-one (suc more) n h = rw (lt-ltb n 10 h)
 
 -- from ten on, the digits of the tenth and then the last
-pub decimals-more : (more n : ℕ) → 10 ≤ n → decimals (suc more) n ≡ decimals more (n / 10) ++ last-digit n
+decimals-more : (more n : ℕ) → 10 ≤ n → decimals (suc more) n ≡ decimals more (n / 10) ++ last-digit n
 unfolding decimals
 decimals-more more n h = rw (le-ltb n 10 h)
 
 -- allowing one digit more changes nothing
-pub decimals-longer : (more n : ℕ) → n < 10 ^ suc more → decimals (suc more) n ≡ decimals more n
+decimals-longer : (more n : ℕ) → n < 10 ^ suc more → decimals (suc more) n ≡ decimals more n
 decimals-longer zero n h = decimals-one 1 n (omega (arith, pow-suc 10 0, pow-zero 10)) ∙ sym (decimals-one 0 n (omega (arith, pow-suc 10 0, pow-zero 10)))
 decimals-longer (suc more) n h = pick (decLt n 10) (λ l. decimals-longer more (n / 10) l)
   where
@@ -39,7 +39,7 @@ unfolding decimals
 decimals-zero n = refl
 
 -- one to `more` + 1 digits
-pub decimals-length : (more n : ℕ) → (1 ≤ length (decimals more n)) × (length (decimals more n) ≤ more + 1)
+decimals-length : (more n : ℕ) → (1 ≤ length (decimals more n)) × (length (decimals more n) ≤ more + 1)
 decimals-length zero n =
     let e = ap length (decimals-zero n) in omega arith
 decimals-length (suc more) n = pick (decLt n 10) (decimals-length more (n / 10))

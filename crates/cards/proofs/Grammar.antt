@@ -29,12 +29,12 @@ digits-one (c ∷ a) (d ∷ b) {x} {y} (_, da) (_, db) sx sy e =
     let r : (a ≡ b) × (x ≡ y) = digits-one a b da db sx sy t in
     ((cc), r .1)
 
-pub front-one : {text : List ℕ} {n m : ℕ} {rest other : List ℕ} → Front text n rest → Front text m other → (n ≡ m) × (rest ≡ other)
+front-one : {text : List ℕ} {n m : ℕ} {rest other : List ℕ} → Front text n rest → Front text m other → (n ≡ m) × (rest ≡ other)
 front-one p q =
     let e = digits-one (p .front) (q .front) (p .number .digits) (q .number .digits) (p .stops) (q .stops) (sym (p .split) ∙ q .split) in
     (p .number .stands-for ∙ ap (spelt 0) (e .0) ∙ sym (q .number .stands-for), e .1)
 
-pub space-stops : (more : List ℕ) → Stops (space ∷ more)
+space-stops : (more : List ℕ) → Stops (space ∷ more)
 space-stops more = no-digit-low (omega arith)
 
 -- ---- the searches, as the code makes them
@@ -82,7 +82,7 @@ pub other-not-spaced : (text : List ℕ) (end : ℕ) → end < length text → g
 other-not-spaced text end h ne (more, s) =
     let z : getD text end 0 ∷ drop (suc end) text ≡ space ∷ more = sym (drop-cons text end 0 h) ∙ s in ne cc
 
-pub more-not-ended : (text : List ℕ) (end : ℕ) → end < length text → ¬ NoMore (drop end text)
+more-not-ended : (text : List ℕ) (end : ℕ) → end < length text → ¬ NoMore (drop end text)
 more-not-ended text end h e = let z = ap length e in omega (arith, length-drop end text)
 
 -- the rest is a space and what comes after it

@@ -37,7 +37,7 @@ digits-at [] i _ h = absurd (omega arith)
 digits-at (b ∷ text) zero (d, _) h = d
 digits-at (b ∷ text) (suc i) (_, more) h = digits-at text i more (omega arith)
 
-pub digits-take : (text : List ℕ) (i : ℕ) → Digits text → Digits (take i text)
+digits-take : (text : List ℕ) (i : ℕ) → Digits text → Digits (take i text)
 digits-take text zero d = tt
 digits-take [] (suc i) d = tt
 digits-take (b ∷ text) (suc i) (d, more) = (d, digits-take text i more)

@@ -8,12 +8,12 @@ use native.Mathlib.Omega.{arith}
 use lib.ListN.{length, getD, take}
 use Rattle.cards.specs.declared.lines.Line.{Line}
 use Rattle.cards.specs.Texts.{newline, Appended, Wrote}
-use Rattle.cards.specs.Cards.{room, unreadable-word, CardOf}
+use Rattle.cards.specs.Cards.{room, unreadable-card, CardOf}
 use Rattle.cards.specs.Output.{ending, Output, Holding, WroteFor, Goes, Prints, FedBy}
 use Rattle.cards.proofs.Buffers.{take-next, appended-none, appended-then, wrote-as}
 use Rattle.cards.proofs.Contents.{card-one}
 
-pub goes-then : (seen mid rest p q s t : List ℕ) → Goes seen p mid s → Goes mid q rest t → Goes seen (p ++ q) rest (s ++ t)
+goes-then : (seen mid rest p q s t : List ℕ) → Goes seen p mid s → Goes mid q rest t → Goes seen (p ++ q) rest (s ++ t)
 goes-then seen mid rest p q s t first second more out o = rw (append-assoc p q more, append-assoc s t out) (first (q ++ more) (t ++ out) (second more out o))
 
 -- ---- one byte
@@ -104,7 +104,7 @@ none-left : (seen : List ℕ) (line : Line) → Holding seen line → line .size
 none-left [] line h e = refl
 none-left (b ∷ seen) line h e = absurd (omega (arith, h .size))
 
-some-left : (seen : List ℕ) (line : Line) → Holding seen line → line .size ≢ 0 → unreadable-word ++ (newline ∷ []) ≡ ending seen
+some-left : (seen : List ℕ) (line : Line) → Holding seen line → line .size ≢ 0 → unreadable-card ≡ ending seen
 some-left [] line h ne = absurd (ne (h .size))
 some-left (b ∷ seen) line h ne = refl
 
@@ -113,10 +113,10 @@ module _ {line : Line} {before : List ℕ} {at : ℕ} where
   ended-clean e fits =
       record { wrote = λ seen h. record { text = []; such = none-left seen line h e; written = appended-none fits }; fits = fits }
 
-  pub ended-cut : {after : List ℕ} {end : ℕ} → line .size ≢ 0 → Appended before at (unreadable-word ++ (newline ∷ [])) after end
+  pub ended-cut : {after : List ℕ} {end : ℕ} → line .size ≢ 0 → Appended before at unreadable-card after end
       → WroteFor (λ seen. Output seen []) line before at after end
   ended-cut ne w =
-      record { wrote = λ seen h. record { text = unreadable-word ++ (newline ∷ []); such = some-left seen line h ne; written = w }; fits = w .fits }
+      record { wrote = λ seen h. record { text = unreadable-card; such = some-left seen line h ne; written = w }; fits = w .fits }
 
 -- ---- the whole input
 

@@ -5,7 +5,7 @@ use Prim.Native.Nat.{ℕ, suc, _+_, _≤_, _<_}
 use native.Mathlib.Numerals.{add-one}
 use native.Mathlib.Decide.{decLt}
 use native.Mathlib.Omega.{arith}
-use lib.ListN.{length, set, take, length-append}
+use lib.ListN.{length, set, take, length-append, length-take}
 use lib.Seq.{take-all, length-take-le, take-append-le, take-suc-set}
 use Rattle.cards.specs.declared.lines.Line.{Line}
 use Rattle.cards.specs.Texts.{Wrote}
@@ -25,44 +25,21 @@ front-card seen text = pick (decLt (length seen) kept)
 
 -- ---- as the code holds it
 
--- how many bytes are held says whether all are
-module _ {seen : List ℕ} {line : Line} (h : Holding seen line) where
-  pub holding-fits : line .size ≤ kept
-  holding-fits = pick (decLt (length seen) kept)
-    where
-      pick : Dec (length seen < kept) → line .size ≤ kept
-      pick (yes l) = omega (arith, h .size, ap length (take-all kept seen (omega arith)))
-      pick (no l) = omega (arith, h .size, length-take-le kept seen (omega arith))
-
-  holding-short : line .size < kept → length seen < kept
-  holding-short l = pick (decLt (length seen) kept)
-    where
-      pick : Dec (length seen < kept) → length seen < kept
-      pick (yes m) = m
-      pick (no m) = absurd (omega (arith, h .size, length-take-le kept seen (omega arith)))
-
-  holding-long : kept ≤ line .size → kept ≤ length seen
-  holding-long l = pick (decLt (length seen) kept)
-    where
-      pick : Dec (length seen < kept) → kept ≤ length seen
-      pick (yes m) = absurd (omega (arith, h .size, ap length (take-all kept seen (omega arith))))
-      pick (no m) = omega arith
-
 pub holding-full : {seen : List ℕ} {line : Line} (byte : ℕ) → Holding seen line → kept ≤ line .size → Holding (seen ++ (byte ∷ [])) line
 holding-full {seen} {line} byte h full = record { size = h .size ∙ ap length same; held = h .held ∙ same }
   where
     same : take kept seen ≡ take kept (seen ++ (byte ∷ []))
-    same = sym (take-append-le kept seen (byte ∷ []) (holding-long h full))
+    same = sym (take-append-le kept seen (byte ∷ []) (omega (arith, h .size, length-take kept seen)))
 
 pub holding-more : {seen : List ℕ} {line next : Line} (byte : ℕ) → Holding seen line → line .size < kept → line .size < length (line .bytes)
     → next .bytes ≡ set (line .bytes) (line .size) byte → next .size ≡ line .size + 1 → Holding (seen ++ (byte ∷ [])) next
 holding-more {seen} {line} {next} byte h room fits eb es = record { size = es ∙ omega (arith, h .size, ap length all, ap length more, length-append seen (byte ∷ [])); held = held }
   where
     all : take kept seen ≡ seen
-    all = take-all kept seen (omega (arith, holding-short h room))
+    all = take-all kept seen (omega (arith, h .size, length-take kept seen))
 
     more : take kept (seen ++ (byte ∷ [])) ≡ seen ++ (byte ∷ [])
-    more = take-all kept (seen ++ (byte ∷ [])) (omega (arith, holding-short h room, length-append seen (byte ∷ [])))
+    more = take-all kept (seen ++ (byte ∷ [])) (omega (arith, h .size, length-take kept seen, length-append seen (byte ∷ [])))
 
     held : take (next .size) (next .bytes) ≡ take kept (seen ++ (byte ∷ []))
     held =
@@ -75,4 +52,4 @@ holding-more {seen} {line} {next} byte h room fits eb es = record { size = es �
 pub holding-card : {seen : List ℕ} {line : Line} {n : ℕ} {before after : List ℕ} {at end : ℕ} → Holding seen line → (line .size ≤ kept → n ≡ line .size)
     → Wrote (CardOf (take n (line .bytes))) before at after end → Wrote (CardOf seen) before at after end
 holding-card {seen} {line} {n} h e w =
-    wrote-as (λ text c. front-card seen text (subst (λ (l : List ℕ). CardOf l text) (ap (λ (m : ℕ). take m (line .bytes)) (e (holding-fits h)) ∙ h .held) c)) w
+    wrote-as (λ text c. front-card seen text (subst (λ (l : List ℕ). CardOf l text) (ap (λ (m : ℕ). take m (line .bytes)) (e (omega (arith, h .size, length-take kept seen))) ∙ h .held) c)) w

@@ -52,6 +52,9 @@ refused-word = 114 ∷ 101 ∷ 102 ∷ 117 ∷ 115 ∷ 101 ∷ 100 ∷ []
 abbrev pub ok-word : List ℕ
 ok-word = 111 ∷ 107 ∷ []
 
+abbrev pub unreadable-card : List ℕ
+unreadable-card = unreadable-word ++ (newline ∷ [])
+
 -- The numbers of the triple, a word and numbers, with one space between them, and a newline.
 abbrev pub row : Triple → List ℕ → List ℕ → List ℕ
 row t word numbers = listing (members t) ++ (space ∷ (word ++ (fields numbers ++ (newline ∷ []))))
@@ -73,5 +76,5 @@ pub data TripleCard (t : Triple) (text : List ℕ) : Type 0 where
 
 -- The card of a line that comes without its newline.
 pub data CardOf (line text : List ℕ) : Type 0 where
-  unreadable : Unreadable line → text ≡ unreadable-word ++ (newline ∷ []) → CardOf line text
+  unreadable : Unreadable line → text ≡ unreadable-card → CardOf line text
   readable : (t : Triple) → Reads line t → TripleCard t text → CardOf line text

@@ -7,12 +7,12 @@ use lib.ListN.{length, take}
 use Rattle.cards.specs.declared.lines.Line.{Line}
 use Rattle.cards.specs.declared.streaming.Fed.{Fed}
 use Rattle.cards.specs.Texts.{newline, Wrote}
-use Rattle.cards.specs.Cards.{room, unreadable-word, CardOf}
+use Rattle.cards.specs.Cards.{room, unreadable-card, CardOf}
 
 -- What is printed for a last line without its newline: nothing where there is no such line.
 abbrev pub ending : List ℕ → List ℕ
 ending [] = []
-ending (byte ∷ more) = unreadable-word ++ (newline ∷ [])
+ending (byte ∷ more) = unreadable-card
 
 -- What is printed for the rest of an input, where the bytes `seen` of a line came before it: a card at each newline.
 abbrev pub Output : List ℕ → List ℕ → List ℕ → Type 0

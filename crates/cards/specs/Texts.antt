@@ -78,10 +78,6 @@ abbrev pub listing : List ℕ → List ℕ
 listing [] = []
 listing (n ∷ more) = decimal n ++ fields more
 
--- A space and the ten digits of the largest number.
-abbrev pub field-room : ℕ
-field-room = 11
-
 -- ---- in a buffer
 
 -- The text was written at a place of a buffer, up to `end`, and every other byte is as it was.
@@ -89,11 +85,6 @@ pub record Appended (before : List ℕ) (at : ℕ) (text after : List ℕ) (end 
   pub bytes : after ≡ take at before ++ (text ++ drop end before)
   pub size : end ≡ at + length text
   pub fits : end ≤ length before
-
--- The same, and the text has at most so many bytes.
-pub record AppendedWithin (most : ℕ) (before : List ℕ) (at : ℕ) (text after : List ℕ) (end : ℕ) : Type 0 where
-  pub written : Appended before at text after end
-  pub short : end ≤ at + most
 
 -- Such a text was written.
 pub record Wrote (Such : List ℕ → Type 0) (before : List ℕ) (at : ℕ) (after : List ℕ) (end : ℕ) : Type 0 where

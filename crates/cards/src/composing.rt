@@ -9,8 +9,9 @@ ghost use mathlib.Core.List.{[], _∷_};
 ghost use Prim.Native.Nat.{_+_, _*_, _≤_};
 ghost use lib.ListN.{length, take};
 ghost use Rattle.qpp.specs.Promises.{Acceptance};
-ghost use Rattle.cards.specs.Texts.{fields, listing, field-room, Appended, AppendedWithin, Wrote};
+ghost use Rattle.cards.specs.Texts.{fields, listing, Appended, Wrote};
 ghost use Rattle.cards.specs.Cards.{room, members, refused-word, ok-word, row, FactsOf, told, TripleCard, CardOf};
+ghost use Rattle.cards.specs.Widths.{field-room, AppendedWithin};
 
 // What the card of a shuffle tells of it: the inverse, P, Q and the spread.
 pub struct Facts {

@@ -1,5 +1,4 @@
-// A line that arrives in pieces. A readable line has at most 17 bytes, so one of 18 is unreadable whatever
-// comes after them, and no more are kept.
+// A line that arrives in pieces. One with as many bytes as are kept is unreadable, whatever comes after them.
 use crate::composing::card;
 ghost use mathlib.Core.Path.{_≡_};
 ghost use mathlib.Core.List.{List, [], _∷_, _++_};

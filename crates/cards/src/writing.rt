@@ -2,7 +2,8 @@
 ghost use mathlib.Core.List.{[], _∷_};
 ghost use Prim.Native.Nat.{_+_, _≤_, _<_};
 ghost use lib.ListN.{length};
-ghost use Rattle.cards.specs.Texts.{space, decimal, field-room, Appended, AppendedWithin};
+ghost use Rattle.cards.specs.Texts.{space, decimal, Appended};
+ghost use Rattle.cards.specs.Widths.{field-room, AppendedWithin};
 
 pub fn byte(out: &mut [u8], at: usize, byte: u8) -> usize
     requires { ⌜ at < length (now out) ⌝ }

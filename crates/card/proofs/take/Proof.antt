@@ -15,7 +15,9 @@ abbrev μ-loop : tie.MeasureT-loop
 μ-loop piece out₀ at line₀ end₀ done₀ out line end done = length piece - done
 
 loop-less : tie.Need-loop-less Inv-loop μ-loop
-loop-less c = omega (arith, c .before .before .before .before .feed .ensures .moves (omega arith) (omega arith))
+loop-less c =
+    let fed = c .before .before .before .before in
+    omega (arith, fed .feed .ensures .moves (omega arith) (omega arith))
 
 pub take-spec : {M : Type 1} → statement M
 take-spec =

@@ -2,7 +2,8 @@
 use Prim.Native.Nat.{_*_, _-_, _≤_}
 use native.Mathlib.Omega.{arith}
 use lib.ListN.{take}
-use Rattle.cards.specs.Texts.{fields, field-room, AppendedWithin}
+use Rattle.cards.specs.Texts.{fields}
+use Rattle.cards.specs.Widths.{field-room, AppendedWithin}
 use Rattle.cards.proofs.Buffers.{appended-length, fields-start, fields-turn, fields-whole}
 use borrow.Author.Needs.{needs}
 use Rattle.cards.proofs.composing.coefficients.Statement.{statement}

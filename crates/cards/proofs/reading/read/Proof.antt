@@ -28,14 +28,16 @@ returns-2 c =
 returns-3 : tie.Need-returns-3
 returns-3 c =
     let w = c .before .before .before in
-    let p = first (w .before .before .before .before .before) in
-    unreadable-as (c .unreadable3 .ensures) (λ t r. w .whole .ensures .none (c .before .if3 .taken) _ _ refl (number-front (begins-rest (begins-rest (r .lists) p) (second (w .before)))))
+    let two = w .before in
+    let one = two .before .before .before .before in
+    unreadable-as (c .unreadable3 .ensures) (λ t r. w .whole .ensures .none (c .before .if3 .taken) _ _ refl (number-front (begins-rest (begins-rest (r .lists) (first one)) (second two))))
 
 returns-4 : tie.Need-returns-4
 returns-4 c =
     let w = c .before .before in
-    let p = first (w .before .before .before .before .before) in
-    readable-as refl (record { lists = begins p (begins (second (w .before)) (front-number (w .whole .ensures .found (c .if3 .left) .0))) })
+    let two = w .before in
+    let one = two .before .before .before .before in
+    readable-as refl (record { lists = begins (first one) (begins (second two) (front-number (w .whole .ensures .found (c .if3 .left) .0))) })
 
 pub read-spec : {M : Type 1} → statement M
 read-spec =
