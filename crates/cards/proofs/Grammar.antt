@@ -8,15 +8,15 @@ use native.Mathlib.Numerals.{add-one}
 use native.Mathlib.Decide.{ℕ-discrete}
 use native.Mathlib.Omega.{arith}
 use lib.ListN.{length, getD, take, drop, take-append-drop, drop-of-length-le, length-append, length-drop}
-use lib.Seq.{drop-cons, length-take-le}
+use lib.Seq.{drop-cons}
 use Rattle.triples.specs.declared.Triple.{Triple}
 use Rattle.triples.specs.Shuffles.{triple}
 use Rattle.cards.specs.declared.reading.Reading.{Reading}
 use Rattle.cards.specs.Texts.{space, Digits, spelt, most-digits, Number, Begins, Lists}
 use Rattle.cards.specs.Cards.{members, Reads, Unreadable, nothing-read, ReadAs}
 use Rattle.cards.specs.Output.{kept}
-use Rattle.cards.specs.Fronts.{Stops, Run, Front, Search, Anything, Spaced, NoMore}
-use Rattle.cards.proofs.Numerals.{no-digit-low, yes-or-no}
+use Rattle.cards.specs.Fronts.{Stops, Run, Front, NoFront, Search, Anything, Spaced, NoMore}
+use Rattle.cards.proofs.Numerals.{yes-or-no, no-digit-low, run-length}
 
 -- digits end in one place
 digits-one : (a b : List ℕ) {x y : List ℕ} → Digits a → Digits b → Stops x → Stops y → a ++ x ≡ b ++ y → (a ≡ b) × (x ≡ y)
@@ -40,15 +40,15 @@ space-stops more = no-digit-low (omega arith)
 -- ---- the searches, as the code makes them
 
 -- too few digits or too many
-pub no-number : {text : List ℕ} {end : ℕ} → Run text end → (1 ≤ end → end ≤ most-digits → ⊥) → (m : ℕ) (other : List ℕ) → ¬ Front text m other
-no-number {text} {end} r few m other f =
+pub no-number : {text : List ℕ} {end : ℕ} → Run text end → (1 ≤ end → end ≤ most-digits → ⊥) → NoFront Anything text
+no-number {text} {end} r few m other _ f =
     let e = digits-one (f .front) (take end text) (f .number .digits) (r .digits) (f .stops) (r .stops) (sym (f .split) ∙ sym (take-append-drop end text)) in
-    let l : length (f .front) ≡ end = ap length (e .0) ∙ length-take-le end text (r .within) in
+    let l : length (f .front) ≡ end = ap length (e .0) ∙ run-length r in
     few (omega (arith, f .number .some)) (omega (arith, f .number .few))
 
 pub run-front : {text : List ℕ} {end n : ℕ} → Run text end → end ≢ 0 → end ≤ most-digits → n ≡ spelt 0 (take end text) → Front text n (drop end text)
 run-front {text} {end} {n} r some few e =
-    let l = length-take-le end text (r .within) in
+    let l = run-length r in
     record {
       front = take end text;
       number = record { digits = r .digits; some = omega arith; few = omega arith; stands-for = e };
@@ -57,41 +57,54 @@ run-front {text} {end} {n} r some few e =
     }
 
 module _ {Such : List ℕ → Type 0} {text rest : List ℕ} {n : ℕ} where
-  pub search-none : (past : ℕ) → past ≡ 0 → ((m : ℕ) (other : List ℕ) → Such other → ¬ Front text m other) → Search Such text past n rest
+  pub search-none : (past : ℕ) → past ≡ 0 → NoFront Such text → Search Such text past n rest
   search-none past e none =
       record { within = omega arith; found = λ ne. absurd (ne e); none = λ _. none }
 
   pub search-found : {past : ℕ} → past ≢ 0 → past ≤ length text → Front text n rest → Such rest → Search Such text past n rest
   search-found ne h f such = record { within = h; found = λ _. (f, such); none = λ e. absurd (ne e) }
 
--- no number, so none with such a rest
-pub none-such : (Such : List ℕ → Type 0) {text rest : List ℕ} {past n : ℕ} → Search Anything text past n rest → past ≡ 0
-    → (m : ℕ) (other : List ℕ) → Such other → ¬ Front text m other
-none-such Such s e m other _ = s .none e m other tt
-
--- another rest
-pub other-rest : (Such : List ℕ → Type 0) {text rest : List ℕ} {past n : ℕ} → Search Anything text past n rest → past ≢ 0 → ¬ Such rest
-    → (m : ℕ) (other : List ℕ) → Such other → ¬ Front text m other
-other-rest Such s ne not m other such f = not (subst Such (sym (front-one (s .found ne .0) f .1)) such)
-
-pub ended-not-spaced : (text : List ℕ) (end : ℕ) → end ≡ length text → ¬ Spaced (drop end text)
-ended-not-spaced text end e (more, s) =
-    let z = ap length (sym (drop-of-length-le text {i = end} (omega arith)) ∙ s) in omega arith
-
-pub other-not-spaced : (text : List ℕ) (end : ℕ) → end < length text → getD text end 0 ≢ space → ¬ Spaced (drop end text)
-other-not-spaced text end h ne (more, s) =
-    let z : getD text end 0 ∷ drop (suc end) text ≡ space ∷ more = sym (drop-cons text end 0 h) ∙ s in ne cc
-
-more-not-ended : (text : List ℕ) (end : ℕ) → end < length text → ¬ NoMore (drop end text)
-more-not-ended text end h e = let z = ap length e in omega (arith, length-drop end text)
-
--- the rest is a space and what comes after it
-pub spaced-rest : (text : List ℕ) (end : ℕ) → end < length text → getD text end 0 ≡ space → drop end text ≡ space ∷ drop (end + 1) text
-spaced-rest text end h e =
-    drop-cons text end 0 h ∙ ap (λ (b : ℕ). b ∷ drop (suc end) text) e ∙ ap (λ (n : ℕ). space ∷ drop n text) (sym (add-one end))
-
 pub front-as : {text rest other : List ℕ} {n : ℕ} → rest ≡ other → Front text n rest → Front text n other
 front-as {text} {rest} {other} {n} e f = subst (λ (l : List ℕ). Front text n l) e f
+
+-- what the search for any number says of one with a space after it, and of one that is the whole text
+module _ {text : List ℕ} {past n : ℕ} (s : Search Anything text past n (drop past text)) where
+  -- no number, so none with such a rest
+  pub none-such : (Such : List ℕ → Type 0) → past ≡ 0 → NoFront Such text
+  none-such Such e m other _ = s .none e m other tt
+
+  -- another rest
+  other-rest : (Such : List ℕ → Type 0) → past ≢ 0 → ¬ Such (drop past text) → NoFront Such text
+  other-rest Such ne not m other such f = not (subst Such (sym (front-one (s .found ne .0) f .1)) such)
+
+  pub spaced-ended : past ≢ 0 → past ≡ length text → NoFront Spaced text
+  spaced-ended ne e =
+      other-rest Spaced ne (λ such. let z = ap length (sym (drop-of-length-le text {i = past} (omega arith)) ∙ such .1) in omega arith)
+
+  pub spaced-other : past ≢ 0 → past < length text → getD text past 0 ≢ space → NoFront Spaced text
+  spaced-other ne h other =
+      other-rest Spaced ne (λ such. let z : getD text past 0 ∷ drop (suc past) text ≡ space ∷ such .0 = sym (drop-cons text past 0 h) ∙ such .1 in other cc)
+
+  pub spaced-past : past ≢ 0 → past < length text → getD text past 0 ≡ space → Search Spaced text (past + 1) n (space ∷ drop (past + 1) text)
+  spaced-past ne h e = search-found (omega arith) (omega arith) (front-as rest (s .found ne .0)) (drop (past + 1) text, refl)
+    where
+      rest : drop past text ≡ space ∷ drop (past + 1) text
+      rest =
+          drop-cons text past 0 h ∙ ap (λ (b : ℕ). b ∷ drop (suc past) text) e ∙ ap (λ (i : ℕ). space ∷ drop i text) (sym (add-one past))
+
+  pub whole-found : past ≡ length text → Search NoMore text past n []
+  whole-found e = pick (ℕ-discrete past 0)
+    where
+      pick : Dec (past ≡ 0) → Search NoMore text past n []
+      pick (yes z) = search-none past z (none-such NoMore z)
+      pick (no z) = search-found z (s .within) (front-as (drop-of-length-le text {i = past} (omega arith)) (s .found z .0)) refl
+
+  pub whole-none : past ≢ length text → NoFront NoMore text
+  whole-none ne = pick (ℕ-discrete past 0)
+    where
+      pick : Dec (past ≡ 0) → NoFront NoMore text
+      pick (yes z) = none-such NoMore z
+      pick (no z) = other-rest NoMore z (λ e. let l = ap length e in omega (arith, s .within, length-drop past text))
 
 pub spaced-none : {text rest : List ℕ} {past n : ℕ} → Search Spaced text past n rest → past ≡ 0 → (m : ℕ) (more : List ℕ) → ¬ Front text m (space ∷ more)
 spaced-none s e m more = s .none e m (space ∷ more) (more, refl)
@@ -99,24 +112,6 @@ spaced-none s e m more = s .none e m (space ∷ more) (more, refl)
 pub spaced-found : {text rest : List ℕ} {past n : ℕ} → Search Spaced text past n (space ∷ drop past text) → past ≢ 0 → rest ≡ drop past text
     → Front text n (space ∷ rest)
 spaced-found s ne e = front-as (ap (λ (l : List ℕ). space ∷ l) (sym e)) (s .found ne .0)
-
-pub whole-found : {text : List ℕ} {past n : ℕ} → Search Anything text past n (drop past text) → past ≡ length text → Search NoMore text past n []
-whole-found {text} {past} {n} s e = pick (ℕ-discrete past 0)
-  where
-    ended : drop past text ≡ []
-    ended = drop-of-length-le text {i = past} (omega arith)
-
-    pick : Dec (past ≡ 0) → Search NoMore text past n []
-    pick (yes z) = search-none past z (none-such NoMore s z)
-    pick (no z) = search-found z (s .within) (front-as ended (s .found z .0)) refl
-
-pub whole-none : {text : List ℕ} {past n : ℕ} → Search Anything text past n (drop past text) → past ≢ length text
-    → (m : ℕ) (other : List ℕ) → NoMore other → ¬ Front text m other
-whole-none {text} {past} {n} s ne = pick (ℕ-discrete past 0)
-  where
-    pick : Dec (past ≡ 0) → (m : ℕ) (other : List ℕ) → NoMore other → ¬ Front text m other
-    pick (yes z) = none-such NoMore s z
-    pick (no z) = other-rest NoMore s z (more-not-ended text past (omega (arith, s .within)))
 
 -- ---- a number, a space and such a rest
 

@@ -44,15 +44,24 @@ digits-take (b ∷ text) (suc i) (d, more) = (d, digits-take text i more)
 
 -- ---- the run of digits at the front
 
-pub run-turn : (text : List ℕ) (i : ℕ) → Digits (take i text) → i < length text → Digit (getD text i 0) → Digits (take (i + 1) text)
-run-turn text i d h here = subst Digits (sym (take-next text i h)) (digits-then (take i text) d here)
+-- the bytes up to `end` are digits
+pub record DigitsTo (text : List ℕ) (end : ℕ) : Type 0 where
+  pub within : end ≤ length text
+  pub digits : Digits (take end text)
 
-pub run-stops : (text : List ℕ) (i : ℕ) → Digits (take i text) → i < length text → ¬ Digit (getD text i 0) → Run text i
-run-stops text i d h here =
-    record { within = omega arith; digits = d; stops = subst Stops (sym (drop-cons text i 0 h)) here }
+module _ {text : List ℕ} {end : ℕ} where
+  pub run-turn : DigitsTo text end → end < length text → Digit (getD text end 0) → DigitsTo text (end + 1)
+  run-turn d h here = record { within = omega arith; digits = subst Digits (sym (take-next text end h)) (digits-then (take end text) (d .digits) here) }
 
-pub run-ends : (text : List ℕ) (i : ℕ) → Digits (take i text) → i ≤ length text → length text ≤ i → Run text i
-run-ends text i d h l = record { within = h; digits = d; stops = subst Stops (sym (drop-of-length-le text l)) tt }
+  pub run-stops : DigitsTo text end → end < length text → ¬ Digit (getD text end 0) → Run text end
+  run-stops d h here =
+      record { within = d .within; digits = d .digits; stops = subst Stops (sym (drop-cons text end 0 h)) here }
+
+  pub run-ends : DigitsTo text end → length text ≤ end → Run text end
+  run-ends d h = record { within = d .within; digits = d .digits; stops = subst Stops (sym (drop-of-length-le text h)) tt }
+
+  pub run-length : Run text end → length (take end text) ≡ end
+  run-length r = length-take-le end text (r .within)
 
 -- ---- the value
 
@@ -67,14 +76,25 @@ value-below n (b ∷ text) (d, more) =
     let m = mul-le-mul-right {m = 10 * n + (b - 48) + 1} {n = 10 * (n + 1)} (10 ^ length text) (omega (arith, d .low, d .high)) in
     omega (arith, ap (λ (p : ℕ). (n + 1) * p) (pow-succ' 10 (length text)))
 
-pub value-turn : (text : List ℕ) (i n : ℕ) → n ≡ spelt 0 (take i text) → i < length text → 10 * n + (getD text i 0 - 48) ≡ spelt 0 (take (i + 1) text)
-value-turn text i n e h = sym (ap (spelt 0) (take-next text i h) ∙ value-then 0 (take i text) (getD text i 0) ∙ ap (λ (v : ℕ). 10 * v + (getD text i 0 - 48)) (sym e))
+-- n is what the first i digits stand for
+pub record ValueTo (text : List ℕ) (i n : ℕ) : Type 0 where
+  pub within : i ≤ length text
+  pub stands-for : n ≡ spelt 0 (take i text)
 
-pub value-small : (text : List ℕ) (i n : ℕ) → Digits text → i < length text → length text ≤ most-digits → n ≡ spelt 0 (take i text) → n < 10000
-value-small text i n d h l e =
-    let w = value-below 0 (take i text) (digits-take text i d) in
-    let p = pow-le-pow-right {n = 10} (omega arith) {i = length (take i text)} {j = 4} (omega (arith, length-take-le i text (omega arith))) in
-    omega (arith, e)
+module _ {text : List ℕ} {i n : ℕ} (v : ValueTo text i n) where
+  pub value-turn : i < length text → ValueTo text (i + 1) (10 * n + (getD text i 0 - 48))
+  value-turn h =
+      record {
+        within = omega arith;
+        stands-for = sym (ap (spelt 0) (take-next text i h) ∙ value-then 0 (take i text) (getD text i 0) ∙ ap (λ (m : ℕ). 10 * m + (getD text i 0 - 48)) (sym (v .stands-for)));
+      }
 
-pub value-end : (text : List ℕ) (i n : ℕ) → n ≡ spelt 0 (take i text) → length text ≤ i → n ≡ spelt 0 text
-value-end text i n e h = e ∙ ap (spelt 0) (take-all i text h)
+  -- one digit fewer than the most
+  pub value-small : Digits text → length text ≤ most-digits → i < length text → n < 10000
+  value-small d l h =
+      let w = value-below 0 (take i text) (digits-take text i d) in
+      let p = pow-le-pow-right {n = 10} (omega arith) {i = length (take i text)} {j = 4} (omega (arith, length-take-le i text (v .within))) in
+      omega (arith, v .stands-for)
+
+  pub value-end : length text ≤ i → n ≡ spelt 0 text
+  value-end h = v .stands-for ∙ ap (spelt 0) (take-all i text h)

@@ -6,15 +6,15 @@ use Rattle.cards.proofs.composing.card.Tie as tie
 
 returns : tie.Need-returns
 returns c =
-    let o = c .before .before in
-    let r = o .before .before .before in
-    card-readable (r .read .ensures .readable (o .before .before .if1 .taken)) (o .of-triple .ensures)
+    let wrote = c .before .before in
+    let test = wrote .before .before in
+    card-readable (test .before .read .ensures .readable (test .if1 .taken)) (wrote .of-triple .ensures)
 
 returns-2 : tie.Need-returns-2
 returns-2 c =
-    let w = c .before .before in
-    let e = w .before .before .before in
-    card-unreadable (e .before .read .ensures .unreadable (e .if1 .left) .0) (w .word .ensures)
+    let wrote = c .before .before in
+    let test = wrote .before .before .before in
+    card-unreadable (test .before .read .ensures .unreadable (test .if1 .left) .0) (wrote .word .ensures)
 
 pub card-spec : {M : Type 1} → statement M
 card-spec =

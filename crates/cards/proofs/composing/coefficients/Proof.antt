@@ -19,20 +19,21 @@ loop-holds : tie.Need-loop-holds Inv-loop μ-loop
 loop-holds c = (fields-start (c .before .args .t4) (omega arith), omega arith)
 
 field-requires : tie.Need-field-requires Inv-loop μ-loop
-field-requires c κs = let l = c .before .before .loop .inv .0 in omega (arith, l .short, appended-length (l .written))
+field-requires c κs = let so-far = c .before .before .loop .inv .0 in omega (arith, so-far .short, appended-length (so-far .written))
 
 loop-again : tie.Need-loop-again Inv-loop μ-loop
 loop-again c =
-    let w = c .before .before in
-    let l = w .before .before .before in
-    (fields-turn (l .before .before .args .t4) (l .loop .i) (l .loop .inv .0) (omega arith) (w .field .ensures), omega arith)
+    let wrote = c .before .before in
+    let turn = wrote .before .before .before in
+    (fields-turn (turn .before .before .args .t4) (turn .loop .i) (turn .loop .inv .0) (omega arith) (wrote .field .ensures), omega arith)
 
 same-length : tie.Need-same-length Inv-loop μ-loop
 same-length c = appended-length (c .before .loop .inv .0 .written)
 
 returns : tie.Need-returns Inv-loop μ-loop
-returns c = let s = c .before .before .before in
-    fields-whole (s .args .t4) (c .before .loop .i) (s .args .degree) (c .before .loop .inv .0) (omega arith) (omega arith)
+returns c =
+    let start = c .before .before .before in
+    fields-whole (start .args .t4) (c .before .loop .i) (start .args .degree) (c .before .loop .inv .0) (omega arith) (omega arith)
 
 pub coefficients-spec : {M : Type 1} → statement M
 coefficients-spec =

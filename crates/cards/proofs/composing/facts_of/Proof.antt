@@ -16,10 +16,11 @@ numbers-of-requires c κs = in-form (accepted (c .before .pre) refl .range) (c .
 
 returns : tie.Need-returns
 returns c =
-    let s = c .before .before in
-    let o = s .before .before in
-    let n = s .before .numbers-of .ensures in
-    facts-are _ (o .before .pre) (c .before .inverse .ensures) refl refl (arp-numbers (o .odd-form .ensures) (n .0) (n .1)) (s .spread .ensures) refl
+    let spread = c .before .before in
+    let found = spread .before in
+    let odd = found .before in
+    let n = found .numbers-of .ensures in
+    facts-are _ (odd .before .pre) (c .before .inverse .ensures) refl refl (arp-numbers (odd .odd-form .ensures) (n .0) (n .1)) (spread .spread .ensures) refl
 
 pub facts-of-spec : {M : Type 1} → statement M
 facts-of-spec =

@@ -7,19 +7,19 @@ use Rattle.cards.proofs.composing.of_triple.Tie as tie
 
 returns : tie.Need-returns
 returns c =
-    let r = c .before .before in
-    let a = r .before .before .before in
-    card-refused (a .accept .ensures) (r .before .before .if1 .taken) (r .refused .ensures)
+    let wrote = c .before .before in
+    let test = wrote .before .before in
+    card-refused (test .before .accept .ensures) (test .if1 .taken) (wrote .refused .ensures)
 
 facts-of-requires : tie.Need-facts-of-requires
 facts-of-requires c κs = acceptance-zero (c .before .before .accept .ensures) (omega arith)
 
 returns-2 : tie.Need-returns-2
 returns-2 c =
-    let r = c .before .before in
-    let g = r .before in
-    let a = g .before .before .before in
-    card-accepted (acceptance-zero (a .accept .ensures) (omega arith)) (g .facts-of .ensures) (r .accepted .ensures)
+    let wrote = c .before .before in
+    let facts = wrote .before in
+    let asked = facts .before .before .before in
+    card-accepted (acceptance-zero (asked .accept .ensures) (omega arith)) (facts .facts-of .ensures) (wrote .accepted .ensures)
 
 pub of-triple-spec : {M : Type 1} → statement M
 of-triple-spec =

@@ -21,22 +21,22 @@ loop-holds c = feeding-start (c .before .before .pre)
 
 take-byte-requires : tie.Need-take-byte-requires Inv-loop μ-loop
 take-byte-requires c κs =
-    let l = c .before .before .before .before in
-    omega (arith, leb-true room (length (l .loop .out) - l .loop .end) (c .before .before .if1 .taken), l .loop .inv .took .fits, l .loop .inv .size)
+    let loop = c .before .before .before .before .loop in
+    omega (arith, leb-true room (length (loop .out) - loop .end) (c .before .before .if1 .taken), loop .inv .took .fits, loop .inv .size)
 
 loop-again : tie.Need-loop-again Inv-loop μ-loop
 loop-again c =
-    let b = c .before .before .before in
-    let l = b .before .before .before .before .before in
-    feeding-turn (l .loop .inv) (omega arith) (b .take-byte .ensures) (b .take-byte .kept .1 .1 .0)
+    let took = c .before .before .before in
+    let turn = took .before .before .before .before .before in
+    feeding-turn (turn .loop .inv) (omega arith) (took .take-byte .ensures) (took .take-byte .kept .1 .1 .0)
 
 same-length : tie.Need-same-length Inv-loop μ-loop
 same-length c = c .before .before .loop .inv .size
 
 returns : tie.Need-returns Inv-loop μ-loop
 returns c =
-    let l = c .before .before .loop in
-    feeding-end (l .inv) (λ enough some. moved (length (l .out)) (l .inv .unmoved) (leb-false _ _ (c .if1 .left)) (omega (arith, l .inv .size)))
+    let loop = c .before .before .loop in
+    feeding-end (loop .inv) (λ enough some. moved (length (loop .out)) (loop .inv .unmoved) (leb-false _ _ (c .if1 .left)) (omega (arith, loop .inv .size)))
 
 same-length-2 : tie.Need-same-length-2 Inv-loop μ-loop
 same-length-2 c = c .before .loop .inv .size

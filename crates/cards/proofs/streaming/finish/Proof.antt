@@ -10,8 +10,8 @@ returns c = ended-clean (c .if1 .taken) (omega arith)
 
 returns-2 : tie.Need-returns-2
 returns-2 c =
-    let w = c .before .before in
-    ended-cut (w .before .before .before .if1 .left) (w .word .ensures)
+    let wrote = c .before .before in
+    ended-cut (wrote .before .before .before .if1 .left) (wrote .word .ensures)
 
 pub finish-spec : {M : Type 1} → statement M
 finish-spec = tie.close (tie.spec returns (λ c. search needs) (λ c κs. search needs) (λ c. search needs) returns-2)

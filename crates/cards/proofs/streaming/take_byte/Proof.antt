@@ -7,8 +7,8 @@ use Rattle.cards.proofs.streaming.take_byte.Tie as tie
 
 returns : tie.Need-returns
 returns c =
-    let w = c .before .before .before in
-    took-line (w .before .before .if1 .taken) (w .card .ensures) (c .new .ensures)
+    let wrote = c .before .before .before in
+    took-line (wrote .before .before .if1 .taken) (wrote .card .ensures) (c .new .ensures)
 
 returns-2 : tie.Need-returns-2
 returns-2 c = took-byte (c .before .if1 .left) (omega arith) (c .push .ensures)

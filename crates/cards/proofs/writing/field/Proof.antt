@@ -7,9 +7,9 @@ use Rattle.cards.proofs.writing.field.Tie as tie
 
 returns : tie.Need-returns
 returns c =
-    let n = c .before .before in
-    let b = n .before .before .before .before in
-    record { written = appended-then (b .byte .ensures) (n .number .ensures .written); short = omega (arith, b .byte .ensures .size) }
+    let numbered = c .before .before in
+    let spaced = numbered .before .before .before .before in
+    record { written = appended-then (spaced .byte .ensures) (numbered .number .ensures .written); short = omega (arith, spaced .byte .ensures .size) }
 
 pub field-spec : {M : Type 1} → statement M
 field-spec = tie.close (tie.spec (λ c κs. search needs) (λ c κs. search needs) (λ c. search needs) returns)

@@ -6,9 +6,9 @@ use Rattle.cards.proofs.lines.Line.card.Tie as tie
 
 returns : tie.Need-returns
 returns c =
-    let w = c .before .before in
-    let m = w .before .before in
-    record { wrote = λ seen h. holding-card h (m .at-most .ensures .1) (w .card-of .ensures); fits = w .card-of .ensures .written .fits }
+    let wrote = c .before .before in
+    let most = wrote .before .before in
+    record { wrote = λ seen h. holding-card h (most .at-most .ensures .1) (wrote .card-of .ensures); fits = wrote .card-of .ensures .written .fits }
 
 pub card-spec : {M : Type 1} → statement M
 card-spec = tie.close (tie.spec (λ c κs. search needs) (λ c κs. search needs) (λ c. search needs) returns)
