@@ -8,8 +8,8 @@ use Rattle.cards.proofs.composing.of_triple.Tie as tie
 returns : tie.Need-returns
 returns c =
     let wrote = c .before .before in
-    let test = wrote .before .before in
-    card-refused (test .before .accept .ensures) (test .if1 .taken) (wrote .refused .ensures)
+    let asked = wrote .before .before .before in
+    card-refused (asked .accept .ensures) (omega arith) (wrote .refused .ensures)
 
 facts-of-requires : tie.Need-facts-of-requires
 facts-of-requires c κs = acceptance-zero (c .before .before .accept .ensures) (omega arith)

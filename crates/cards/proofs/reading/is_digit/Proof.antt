@@ -5,10 +5,10 @@ use Rattle.cards.proofs.reading.is_digit.Statement.{statement}
 use Rattle.cards.proofs.reading.is_digit.Tie as tie
 
 returns : tie.Need-returns
-returns c = decides-no (no-digit-low (c .if1 .taken))
+returns c = decides-no (no-digit-low (omega arith))
 
 returns-2 : tie.Need-returns-2
-returns-2 c = decides-no (no-digit-high (c .if2 .taken))
+returns-2 c = decides-no (no-digit-high (omega arith))
 
 returns-3 : tie.Need-returns-3
 returns-3 c = decides-yes (record { low = omega arith; high = omega arith })

@@ -7,17 +7,17 @@ use Rattle.cards.proofs.reading.spaced.Statement.{statement}
 use Rattle.cards.proofs.reading.spaced.Tie as tie
 
 returns : tie.Need-returns
-returns c = search-none _ (c .missing .ensures .0) (none-such (c .before .before .number .ensures) Spaced (c .before .if1 .taken))
+returns c = search-none _ (c .missing .ensures .0) (none-such (c .before .before .number .ensures) Spaced (omega arith))
 
 returns-2 : tie.Need-returns-2
 returns-2 c =
     let found = c .before .before .before .number in
-    search-none _ (c .missing2 .ensures .0) (spaced-ended (found .ensures) (omega arith) (c .before .if2 .taken))
+    search-none _ (c .missing2 .ensures .0) (spaced-ended (found .ensures) (omega arith) (omega arith))
 
 returns-3 : tie.Need-returns-3
 returns-3 c =
     let found = c .before .before .before .before .before .number in
-    search-none _ (c .missing3 .ensures .0) (spaced-other (found .ensures) (omega arith) (omega (arith, found .ensures .within)) (c .before .if3 .taken))
+    search-none _ (c .missing3 .ensures .0) (spaced-other (found .ensures) (omega arith) (omega (arith, found .ensures .within)) (omega arith))
 
 returns-4 : tie.Need-returns-4
 returns-4 c =

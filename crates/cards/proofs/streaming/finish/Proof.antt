@@ -6,12 +6,10 @@ use Rattle.cards.proofs.streaming.finish.Statement.{statement}
 use Rattle.cards.proofs.streaming.finish.Tie as tie
 
 returns : tie.Need-returns
-returns c = ended-clean (c .if1 .taken) (omega arith)
+returns c = ended-clean (omega arith) (omega arith)
 
 returns-2 : tie.Need-returns-2
-returns-2 c =
-    let wrote = c .before .before in
-    ended-cut (wrote .before .before .before .if1 .left) (wrote .word .ensures)
+returns-2 c = ended-cut (omega arith) (c .before .before .word .ensures)
 
 pub finish-spec : {M : Type 1} → statement M
 finish-spec = tie.close (tie.spec returns (λ c. search needs) (λ c κs. search needs) (λ c. search needs) returns-2)

@@ -8,10 +8,10 @@ use Rattle.cards.proofs.streaming.take_byte.Tie as tie
 returns : tie.Need-returns
 returns c =
     let wrote = c .before .before .before in
-    took-line (wrote .before .before .if1 .taken) (wrote .card .ensures) (c .new .ensures)
+    took-line (omega arith) (wrote .card .ensures) (c .new .ensures)
 
 returns-2 : tie.Need-returns-2
-returns-2 c = took-byte (c .before .if1 .left) (omega arith) (c .push .ensures)
+returns-2 c = took-byte (omega arith) (omega arith) (c .push .ensures)
 
 pub take-byte-spec : {M : Type 1} → statement M
 take-byte-spec =
