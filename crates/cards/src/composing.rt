@@ -10,7 +10,7 @@ ghost use Prim.Native.Nat.{_+_, _*_, _≤_};
 ghost use lib.ListN.{length, take};
 ghost use Rattle.qpp.specs.Promises.{Acceptance};
 ghost use Rattle.cards.specs.Texts.{fields, listing, Appended, Wrote};
-ghost use Rattle.cards.specs.Cards.{room, members, refused-word, ok-word, row, FactsOf, told, TripleCard, CardOf};
+ghost use Rattle.cards.specs.Cards.{room, members, unreadable-card, refused-word, ok-word, row, FactsOf, told, TripleCard, CardOf};
 ghost use Rattle.cards.specs.Widths.{field-room, AppendedWithin};
 
 // What the card of a shuffle tells of it: the inverse, P, Q and the spread.
@@ -109,6 +109,14 @@ fn of_triple(t: Triple, out: &mut [u8], at: usize) -> usize
     accepted(out, at, t, facts_of(t))
 }
 
+// The card of a line that is not readable.
+pub fn unreadable(out: &mut [u8], at: usize) -> usize
+    requires { ⌜ at + room ≤ length (now out) ⌝ }
+    ensures { λ end. ⌜ Appended (now (out .entry)) at unreadable-card (now (out .exit)) end ⌝ }
+{
+    word(out, at, b"unreadable\n")
+}
+
 // Writes the card of a line, which comes without its newline, and answers where the card ends.
 pub fn card(line: &[u8], out: &mut [u8], at: usize) -> usize
     requires { ⌜ at + room ≤ length (now out) ⌝ }
@@ -118,5 +126,5 @@ pub fn card(line: &[u8], out: &mut [u8], at: usize) -> usize
     if reading.readable {
         return of_triple(reading.triple, out, at);
     }
-    word(out, at, b"unreadable\n")
+    unreadable(out, at)
 }

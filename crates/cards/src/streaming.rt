@@ -1,6 +1,6 @@
 // Cards for an input that arrives in pieces of any size, into a buffer that is emptied now and then.
+use crate::composing::unreadable;
 use crate::lines::Line;
-use crate::writing::word;
 ghost use mathlib.Core.List.{[], _∷_};
 ghost use Prim.Native.Nat.{_+_, _≤_};
 ghost use lib.ListN.{length};
@@ -65,5 +65,5 @@ pub fn finish(line: Line, out: &mut [u8], at: usize) -> usize
     if line.size == 0 {
         return at;
     }
-    word(out, at, b"unreadable\n")
+    unreadable(out, at)
 }

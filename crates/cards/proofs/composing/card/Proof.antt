@@ -13,8 +13,8 @@ returns c =
 returns-2 : tie.Need-returns-2
 returns-2 c =
     let wrote = c .before .before in
-    let test = wrote .before .before .before in
-    card-unreadable (test .before .read .ensures .unreadable (test .if1 .left) .0) (wrote .word .ensures)
+    let test = wrote .before .before in
+    card-unreadable (test .before .read .ensures .unreadable (test .if1 .left) .0) (wrote .unreadable .ensures)
 
 pub card-spec : {M : Type 1} → statement M
 card-spec =
@@ -24,7 +24,6 @@ card-spec =
     (λ c κs. search needs)
     (λ c. search needs)
     returns
-    (λ c. search needs)
     (λ c κs. search needs)
     (λ c. search needs)
     returns-2)

@@ -9,7 +9,7 @@ returns : tie.Need-returns
 returns c = ended-clean (omega arith) (omega arith)
 
 returns-2 : tie.Need-returns-2
-returns-2 c = ended-cut (omega arith) (c .before .before .word .ensures)
+returns-2 c = ended-cut (omega arith) (c .before .before .unreadable .ensures)
 
 pub finish-spec : {M : Type 1} → statement M
-finish-spec = tie.close (tie.spec returns (λ c. search needs) (λ c κs. search needs) (λ c. search needs) returns-2)
+finish-spec = tie.close (tie.spec returns (λ c κs. search needs) (λ c. search needs) returns-2)
