@@ -22,11 +22,13 @@ use Rattle.cards.proofs.Buffers.{wrote-as, wrote-one}
 use Rattle.cards.proofs.Grammar.{reads-one}
 
 -- from the calls
-pub facts-are : {t : Triple} {s : Value} {i : InverseForm} (r : Facts) → Acceptance t 0 → InverseOf t i → r .degree ≡ i .degree → r .a ≡ i .a → ArpNumbers t (r .p) (r .q)
+pub facts-are : {t : Triple} {s : Value} {i : InverseForm} (r : Facts) → Acceptance t 0 → InverseOf t i → r .degree ≡ i .degree
+    → r .a ≡ i .a → ArpNumbers t (r .p) (r .q)
     → SpreadOf t s → r .spread ≡ s .value → FactsOf t r
 facts-are {t} {s} {i} r a inverse d c n w v =
     record {
-      inverse = subst₂ (λ (D : ℕ) (l : List ℕ). Inverted (t .k) (f t) D l) (sym d) (sym c) (inverse .done (acceptance-one t (inverse .first) a));
+      inverse =
+          subst₂ (λ (D : ℕ) (l : List ℕ). Inverted (t .k) (f t) D l) (sym d) (sym c) (inverse .done (acceptance-one t (inverse .first) a));
       numbers = n;
       spread = subst (λ (n : ℕ). Spread (f t) (t .k) n) (sym v) (w .done (acceptance-one t (w .first) a));
     }
@@ -43,10 +45,12 @@ module _ {before after : List ℕ} {at end : ℕ} where
   pub card-readable : {line : List ℕ} {t : Triple} → Reads line t → Wrote (TripleCard t) before at after end → Wrote (CardOf line) before at after end
   card-readable {line} {t} r w = wrote-as (λ text c. readable t r c) w
 
-  pub card-refused : {t : Triple} {n : ℕ} → Acceptance t n → n ≢ 0 → Appended before at (row t refused-word (n ∷ [])) after end → Wrote (TripleCard t) before at after end
+  pub card-refused : {t : Triple} {n : ℕ} → Acceptance t n → n ≢ 0 → Appended before at (row t refused-word (n ∷ [])) after end
+      → Wrote (TripleCard t) before at after end
   card-refused {t} {n} a ne w = record { text = row t refused-word (n ∷ []); such = refused n a ne refl; written = w }
 
-  pub card-accepted : {t : Triple} {r : Facts} → Acceptance t 0 → FactsOf t r → Appended before at (row t ok-word (told r)) after end → Wrote (TripleCard t) before at after end
+  pub card-accepted : {t : Triple} {r : Facts} → Acceptance t 0 → FactsOf t r → Appended before at (row t ok-word (told r)) after end
+      → Wrote (TripleCard t) before at after end
   card-accepted {t} {r} a facts w = record { text = row t ok-word (told r); such = accepted r a facts refl; written = w }
 
 -- ---- no second card
@@ -72,5 +76,6 @@ card-one (readable t r _) (unreadable none _) = absurd (none t r)
 card-one {a = a} (readable t r c) (readable u s d) = triple-card-one (subst (λ (x : Triple). TripleCard x a) (reads-one r s) c) d
 
 -- and so no second buffer and no second end
-pub card-at-one : {line before a b : List ℕ} {at end end′ : ℕ} → Wrote (CardOf line) before at a end → Wrote (CardOf line) before at b end′ → (a ≡ b) × (end ≡ end′)
+pub card-at-one : {line before a b : List ℕ} {at end end′ : ℕ} → Wrote (CardOf line) before at a end → Wrote (CardOf line) before at b end′
+    → (a ≡ b) × (end ≡ end′)
 card-at-one = wrote-one (λ s t. card-one)

@@ -24,10 +24,12 @@ decimals-more more n h = rw (le-ltb n 10 h)
 
 -- allowing one digit more changes nothing
 decimals-longer : (more n : ℕ) → n < 10 ^ suc more → decimals (suc more) n ≡ decimals more n
-decimals-longer zero n h = decimals-one 1 n (omega (arith, pow-suc 10 0, pow-zero 10)) ∙ sym (decimals-one 0 n (omega (arith, pow-suc 10 0, pow-zero 10)))
+decimals-longer zero n h =
+    let l : n < 10 = omega (arith, pow-suc 10 0, pow-zero 10) in decimals-one 1 n l ∙ sym (decimals-one 0 n l)
 decimals-longer (suc more) n h = pick (decLt n 10) (λ l. decimals-longer more (n / 10) l)
   where
-    pick : Dec (n < 10) → (n / 10 < 10 ^ suc more → decimals (suc more) (n / 10) ≡ decimals more (n / 10)) → decimals (suc (suc more)) n ≡ decimals (suc more) n
+    pick : Dec (n < 10) → (n / 10 < 10 ^ suc more → decimals (suc more) (n / 10) ≡ decimals more (n / 10))
+        → decimals (suc (suc more)) n ≡ decimals (suc more) n
     pick (yes l) w = decimals-one (suc (suc more)) n l ∙ sym (decimals-one (suc more) n l)
     pick (no l) w =
         decimals-more (suc more) n (omega arith)

@@ -42,7 +42,8 @@ space-stops more = no-digit-low (omega arith)
 -- too few digits or too many
 pub no-number : {text : List ℕ} {end : ℕ} → Run text end → (1 ≤ end → end ≤ most-digits → ⊥) → NoFront Anything text
 no-number {text} {end} r few m other _ f =
-    let e = digits-one (f .front) (take end text) (f .number .digits) (r .digits) (f .stops) (r .stops) (sym (f .split) ∙ sym (take-append-drop end text)) in
+    let same = sym (f .split) ∙ sym (take-append-drop end text) in
+    let e = digits-one (f .front) (take end text) (f .number .digits) (r .digits) (f .stops) (r .stops) same in
     let l : length (f .front) ≡ end = ap length (e .0) ∙ run-length r in
     few (omega (arith, f .number .some)) (omega (arith, f .number .few))
 
@@ -83,7 +84,8 @@ module _ {text : List ℕ} {past n : ℕ} (s : Search Anything text past n (drop
 
   pub spaced-other : past ≢ 0 → past < length text → getD text past 0 ≢ space → NoFront Spaced text
   spaced-other ne h other =
-      other-rest Spaced ne (λ such. let z : getD text past 0 ∷ drop (suc past) text ≡ space ∷ such .0 = sym (drop-cons text past 0 h) ∙ such .1 in other cc)
+      other-rest Spaced ne
+      (λ such. let z : getD text past 0 ∷ drop (suc past) text ≡ space ∷ such .0 = sym (drop-cons text past 0 h) ∙ such .1 in other cc)
 
   pub spaced-past : past ≢ 0 → past < length text → getD text past 0 ≡ space → Search Spaced text (past + 1) n (space ∷ drop (past + 1) text)
   spaced-past ne h e = search-found (omega arith) (omega arith) (front-as rest (s .found ne .0)) (drop (past + 1) text, refl)
@@ -106,7 +108,8 @@ module _ {text : List ℕ} {past n : ℕ} (s : Search Anything text past n (drop
       pick (yes z) = none-such NoMore z
       pick (no z) = other-rest NoMore z (λ e. let l = ap length e in omega (arith, s .within, length-drop past text))
 
-pub spaced-none : {text rest : List ℕ} {past n : ℕ} → Search Spaced text past n rest → past ≡ 0 → (m : ℕ) (more : List ℕ) → ¬ Front text m (space ∷ more)
+pub spaced-none : {text rest : List ℕ} {past n : ℕ} → Search Spaced text past n rest → past ≡ 0 → (m : ℕ) (more : List ℕ)
+    → ¬ Front text m (space ∷ more)
 spaced-none s e m more = s .none e m (space ∷ more) (more, refl)
 
 pub spaced-found : {text rest : List ℕ} {past n : ℕ} → Search Spaced text past n (space ∷ drop past text) → past ≢ 0 → rest ≡ drop past text
@@ -164,7 +167,8 @@ lists-short (n ∷ m ∷ more) text p =
 -- ---- a line
 
 pub reads-one : {line : List ℕ} {t u : Triple} → Reads line t → Reads line u → t ≡ u
-reads-one {line} {t} {u} p q = ap (λ (l : List ℕ). triple (getD l 0 0) (getD l 1 0) (getD l 2 0)) (lists-one (members t) (members u) line (p .lists) (q .lists))
+reads-one {line} {t} {u} p q =
+    ap (λ (l : List ℕ). triple (getD l 0 0) (getD l 1 0) (getD l 2 0)) (lists-one (members t) (members u) line (p .lists) (q .lists))
 
 pub reads-short : {line : List ℕ} {t : Triple} → Reads line t → length line < kept
 reads-short {line} {t} r = lists-short (members t) line (r .lists)

@@ -51,7 +51,8 @@ pub record DigitsTo (text : List ℕ) (end : ℕ) : Type 0 where
 
 module _ {text : List ℕ} {end : ℕ} where
   pub run-turn : DigitsTo text end → end < length text → Digit (getD text end 0) → DigitsTo text (end + 1)
-  run-turn d h here = record { within = omega arith; digits = subst Digits (sym (take-next text end h)) (digits-then (take end text) (d .digits) here) }
+  run-turn d h here =
+      record { within = omega arith; digits = subst Digits (sym (take-next text end h)) (digits-then (take end text) (d .digits) here) }
 
   pub run-stops : DigitsTo text end → end < length text → ¬ Digit (getD text end 0) → Run text end
   run-stops d h here =
@@ -86,7 +87,10 @@ module _ {text : List ℕ} {i n : ℕ} (v : ValueTo text i n) where
   value-turn h =
       record {
         within = omega arith;
-        stands-for = sym (ap (spelt 0) (take-next text i h) ∙ value-then 0 (take i text) (getD text i 0) ∙ ap (λ (m : ℕ). 10 * m + (getD text i 0 - 48)) (sym (v .stands-for)));
+        stands-for =
+            ap (λ (m : ℕ). 10 * m + (getD text i 0 - 48)) (v .stands-for)
+            ∙ sym (value-then 0 (take i text) (getD text i 0))
+            ∙ sym (ap (spelt 0) (take-next text i h));
       }
 
   -- one digit fewer than the most

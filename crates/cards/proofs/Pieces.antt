@@ -14,7 +14,8 @@ use Rattle.cards.proofs.Buffers.{take-next, appended-none, appended-the
 use Rattle.cards.proofs.Contents.{card-one}
 
 goes-then : (seen mid rest p q s t : List ℕ) → Goes seen p mid s → Goes mid q rest t → Goes seen (p ++ q) rest (s ++ t)
-goes-then seen mid rest p q s t first second more out o = rw (append-assoc p q more, append-assoc s t out) (first (q ++ more) (t ++ out) (second more out o))
+goes-then seen mid rest p q s t first second more out o =
+    rw (append-assoc p q more, append-assoc s t out) (first (q ++ more) (t ++ out) (second more out o))
 
 -- ---- one byte
 
@@ -24,7 +25,9 @@ module _ {unended line : Line} {before : List ℕ} {at byte : ℕ} where
       → WroteFor (Prints (byte ∷ []) line) unended before at after end
   took-line e w empty =
       record {
-        wrote = λ seen h. wrote-as (λ text c. record { rest = []; holds = empty; goes = λ more out o. inl (e, text, out, c, o, refl) }) (w .wrote seen h);
+        wrote = λ seen h.
+            wrote-as (λ text c. record { rest = []; holds = empty; goes = λ more out o. inl (e, text, out, c, o, refl) })
+            (w .wrote seen h);
         fits = w .fits;
       }
 
@@ -61,8 +64,10 @@ feeding-start h =
       unmoved = λ _. refl;
     }
 
-pub feeding-turn : {piece before out after : List ℕ} {at end taken end′ : ℕ} {unended line line′ : Line} → Feeding piece before at unended out line end taken
-    → taken < length piece → WroteFor (Prints (getD piece taken 0 ∷ []) line′) line out end after end′ → length after ≡ length out → Feeding piece before at unended after line′ end′ (taken + 1)
+pub feeding-turn : {piece before out after : List ℕ} {at end taken end′ : ℕ} {unended line line′ : Line}
+    → Feeding piece before at unended out line end taken
+    → taken < length piece → WroteFor (Prints (getD piece taken 0 ∷ []) line′) line out end after end′ → length after ≡ length out
+    → Feeding piece before at unended after line′ end′ (taken + 1)
 feeding-turn {piece} {before} {out} {after} {at} {end} {taken} {end′} {unended} {line} {line′} g h step same =
     record {
       took = record { wrote = λ seen w. then seen (g .took .wrote seen w); fits = omega (arith, step .fits, g .size) };
@@ -71,7 +76,8 @@ feeding-turn {piece} {before} {out} {after} {at} {end} {taken} {end′} {unended
       unmoved = λ z. absurd (omega arith);
     }
   where
-    then : (seen : List ℕ) → Wrote (Prints (take taken piece) line seen) before at out end → Wrote (Prints (take (taken + 1) piece) line′ seen) before at after end′
+    then : (seen : List ℕ) → Wrote (Prints (take taken piece) line seen) before at out end
+        → Wrote (Prints (take (taken + 1) piece) line′ seen) before at after end′
     then seen a =
         let b = step .wrote (a .such .rest) (a .such .holds) in
         record {
@@ -81,13 +87,15 @@ feeding-turn {piece} {before} {out} {after} {at} {end} {taken} {end′} {unended
             holds = b .such .holds;
             goes =
                 subst (λ (l : List ℕ). Goes seen l (b .such .rest) (a .text ++ b .text)) (sym (take-next piece taken h))
-                (goes-then seen (a .such .rest) (b .such .rest) (take taken piece) (getD piece taken 0 ∷ []) (a .text) (b .text) (a .such .goes) (b .such .goes));
+                (goes-then seen (a .such .rest) (b .such .rest) (take taken piece) (getD piece taken 0 ∷ []) (a .text) (b .text)
+                (a .such .goes) (b .such .goes));
           };
           written = appended-then (a .written) (b .written);
         }
 
 pub feeding-end : {piece before out : List ℕ} {at end taken : ℕ} {unended line : Line} → Feeding piece before at unended out line end taken
-    → (at + room ≤ length before → 1 ≤ length piece → 1 ≤ taken) → FedBy piece unended before at (record { taken = taken; line = line; end = end }) out
+    → (at + room ≤ length before → 1 ≤ length piece → 1 ≤ taken)
+    → FedBy piece unended before at (record { taken = taken; line = line; end = end }) out
 feeding-end g moves = record { took = g .took; within = g .within; moves = moves }
 
 -- a stop for want of room comes after something was taken

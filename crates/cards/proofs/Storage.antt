@@ -33,7 +33,8 @@ holding-full {seen} {line} byte h full = record { size = h .size ∙ ap length s
 
 pub holding-more : {seen : List ℕ} {line next : Line} (byte : ℕ) → Holding seen line → line .size < kept → line .size < length (line .bytes)
     → next .bytes ≡ set (line .bytes) (line .size) byte → next .size ≡ line .size + 1 → Holding (seen ++ (byte ∷ [])) next
-holding-more {seen} {line} {next} byte h room fits eb es = record { size = es ∙ omega (arith, h .size, ap length all, ap length more, length-append seen (byte ∷ [])); held = held }
+holding-more {seen} {line} {next} byte h room fits eb es =
+    record { size = es ∙ omega (arith, h .size, ap length all, ap length more, length-append seen (byte ∷ [])); held = held }
   where
     all : take kept seen ≡ seen
     all = take-all kept seen (omega (arith, h .size, length-take kept seen))
@@ -49,7 +50,10 @@ holding-more {seen} {line} {next} byte h room fits eb es = record { size = es �
         ∙ ap (λ (l : List ℕ). l ++ (byte ∷ [])) (h .held ∙ all)
         ∙ sym more
 
-pub holding-card : {seen : List ℕ} {line : Line} {n : ℕ} {before after : List ℕ} {at end : ℕ} → Holding seen line → (line .size ≤ kept → n ≡ line .size)
+pub holding-card : {seen : List ℕ} {line : Line} {n : ℕ} {before after : List ℕ} {at end : ℕ} → Holding seen line
+    → (line .size ≤ kept → n ≡ line .size)
     → Wrote (CardOf (take n (line .bytes))) before at after end → Wrote (CardOf seen) before at after end
 holding-card {seen} {line} {n} h e w =
-    wrote-as (λ text c. front-card seen text (subst (λ (l : List ℕ). CardOf l text) (ap (λ (m : ℕ). take m (line .bytes)) (e (omega (arith, h .size, length-take kept seen))) ∙ h .held) c)) w
+    let front : take n (line .bytes) ≡ take kept seen =
+    ap (λ (m : ℕ). take m (line .bytes)) (e (omega (arith, h .size, length-take kept seen))) ∙ h .held in
+    wrote-as (λ text c. front-card seen text (subst (λ (l : List ℕ). CardOf l text) front c)) w

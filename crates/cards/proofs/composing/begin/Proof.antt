@@ -11,7 +11,9 @@ returns c =
     let second = third .before .before .before .before in
     let first = second .before .before .before .before in
     record {
-      written = appended-then (first .number .ensures .written) (appended-then (second .field .ensures .written) (appended-last (third .field2 .ensures .written)));
+      written =
+          appended-then (first .number .ensures .written)
+          (appended-then (second .field .ensures .written) (appended-last (third .field2 .ensures .written)));
       short = omega (arith, first .number .ensures .short, second .field .ensures .short);
     }
 

@@ -20,7 +20,8 @@ returns c =
     let found = spread .before in
     let odd = found .before in
     let n = found .numbers-of .ensures in
-    facts-are _ (odd .before .pre) (c .before .inverse .ensures) refl refl (arp-numbers (odd .odd-form .ensures) (n .0) (n .1)) (spread .spread .ensures) refl
+    facts-are _ (odd .before .pre) (c .before .inverse .ensures) refl refl
+    (arp-numbers (odd .odd-form .ensures) (n .0) (n .1)) (spread .spread .ensures) refl
 
 pub facts-of-spec : {M : Type 1} → statement M
 facts-of-spec =

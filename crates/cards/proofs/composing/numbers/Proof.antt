@@ -13,8 +13,11 @@ returns c =
     let inverse = p .before .before .before .before in
     let degree = inverse .before .before .before .before .before in
     record {
-      written = fields-told _ (degree .field .ensures .written) (inverse .coefficients .ensures .written) (p .field2 .ensures .written) (q .field3 .ensures .written) (spread .field4 .ensures .written);
-      short = omega (arith, degree .field .ensures .short, inverse .coefficients .ensures .short, p .field2 .ensures .short, q .field3 .ensures .short);
+      written =
+          fields-told _ (degree .field .ensures .written) (inverse .coefficients .ensures .written)
+          (p .field2 .ensures .written) (q .field3 .ensures .written) (spread .field4 .ensures .written);
+      short =
+          omega (arith, degree .field .ensures .short, inverse .coefficients .ensures .short, p .field2 .ensures .short, q .field3 .ensures .short);
     }
 
 pub numbers-spec : {M : Type 1} → statement M

@@ -10,7 +10,8 @@ returns c =
     let told = ended .before .before .before .before in
     let worded = told .before .before .before .before in
     let begun = worded .before .before .before .before .before in
-    appended-then (begun .begin .ensures .written) (appended-then (worded .word .ensures) (appended-then (appended-last (told .field .ensures .written)) (ended .byte .ensures)))
+    appended-then (begun .begin .ensures .written)
+    (appended-then (worded .word .ensures) (appended-then (appended-last (told .field .ensures .written)) (ended .byte .ensures)))
 
 pub refused-spec : {M : Type 1} → statement M
 refused-spec =

@@ -36,7 +36,8 @@ same-length c = c .before .before .loop .inv .size
 returns : tie.Need-returns Inv-loop μ-loop
 returns c =
     let loop = c .before .before .loop in
-    feeding-end (loop .inv) (λ enough some. moved (length (loop .out)) (loop .inv .unmoved) (leb-false _ _ (c .if1 .left)) (omega (arith, loop .inv .size)))
+    feeding-end (loop .inv)
+    (λ enough some. moved (length (loop .out)) (loop .inv .unmoved) (leb-false _ _ (c .if1 .left)) (omega (arith, loop .inv .size)))
 
 same-length-2 : tie.Need-same-length-2 Inv-loop μ-loop
 same-length-2 c = c .before .loop .inv .size

@@ -9,7 +9,10 @@ returns : tie.Need-returns
 returns c =
     let numbered = c .before .before in
     let spaced = numbered .before .before .before .before in
-    record { written = appended-then (spaced .byte .ensures) (numbered .number .ensures .written); short = omega (arith, spaced .byte .ensures .size) }
+    record {
+      written = appended-then (spaced .byte .ensures) (numbered .number .ensures .written);
+      short = omega (arith, spaced .byte .ensures .size);
+    }
 
 pub field-spec : {M : Type 1} → statement M
 field-spec = tie.close (tie.spec (λ c κs. search needs) (λ c κs. search needs) (λ c. search needs) returns)
