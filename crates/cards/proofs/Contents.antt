@@ -6,11 +6,11 @@ use Prim.Native.Nat.{ℕ}
 use Rattle.triples.specs.declared.Triple.{Triple}
 use Rattle.triples.specs.Shuffles.{f}
 use Rattle.polynomials.specs.Inverses.{Inverted}
-use Rattle.polynomials.proofs.Answering.{inverted-one}
+use Rattle.polynomials.proofs.Inverses.{inverted-one}
 use Rattle.arp.specs.Arp.{ArpNumbers}
 use Rattle.arp.proofs.Shifting.{arp-numbers-one}
-use Rattle.spreading.specs.Spread.{Spread}
-use Rattle.spreading.proofs.Distances.{spread-one}
+use Rattle.spreading.specs.Spreads.{Spread}
+use Rattle.spreading.proofs.Spreads.{spread-one}
 use Rattle.qpp.specs.declared.shuffles.Value.{Value}
 use Rattle.qpp.specs.declared.inverses.InverseForm.{InverseForm}
 use Rattle.qpp.specs.Promises.{Acceptance, SpreadOf, InverseOf}

@@ -7,7 +7,7 @@ use native.Mathlib.Nat.{pow-zero, pow-succ', pow-le-pow-right, mul-le-mul-right}
 use native.Mathlib.Omega.{arith}
 use lib.ListN.{length, getD, take, drop-of-length-le}
 use lib.Seq.{drop-cons, take-all, length-take-le}
-use Rattle.numbers.specs.Divisors.{Decides}
+use Rattle.numbers.specs.Decision.{Decides}
 use Rattle.cards.specs.Texts.{Digit, Digits, spelt, most-digits}
 use Rattle.cards.specs.Fronts.{Stops, Run}
 use Rattle.cards.proofs.Buffers.{take-next}

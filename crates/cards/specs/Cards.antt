@@ -9,7 +9,7 @@ use Rattle.triples.specs.declared.Triple.{Triple}
 use Rattle.triples.specs.Shuffles.{triple, f}
 use Rattle.polynomials.specs.Inverses.{Inverted}
 use Rattle.arp.specs.Arp.{ArpNumbers}
-use Rattle.spreading.specs.Spread.{Spread}
+use Rattle.spreading.specs.Spreads.{Spread}
 use Rattle.qpp.specs.Promises.{Acceptance}
 use Rattle.cards.specs.declared.reading.Reading.{Reading}
 use Rattle.cards.specs.declared.composing.Facts.{Facts}

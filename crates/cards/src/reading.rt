@@ -4,7 +4,7 @@ ghost use mathlib.Core.Path.{_≡_};
 ghost use mathlib.Core.List.{_∷_, []};
 ghost use Prim.Native.Nat.{_≤_};
 ghost use lib.ListN.{length, drop};
-ghost use Rattle.numbers.specs.Divisors.{Decides};
+ghost use Rattle.numbers.specs.Decision.{Decides};
 ghost use Rattle.cards.specs.Texts.{space, Digit, Digits, spelt, most-digits};
 ghost use Rattle.cards.specs.Fronts.{Run, Search, Anything, Spaced, NoMore};
 ghost use Rattle.cards.specs.Cards.{nothing-read, ReadAs};
