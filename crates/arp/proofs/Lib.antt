@@ -1,3 +1,3 @@
--- `Periods`: the period, computed. `Shifting`: the shifts, and the addresses that they give.
+-- `Periods`: the period, computed. `ArpForms`: the shifts, and the addresses that they give.
 pub mod Periods
-pub mod Shifting
+pub mod ArpForms

@@ -1,40 +1,20 @@
 -- What a card tells of a shuffle, and that no second card fits.
-use mathlib.Core.Path.{_≡_, refl, sym, ap, subst, subst₂, _∙_}
+use mathlib.Core.Path.{_≡_, refl, sym, ap, subst, _∙_}
 use mathlib.Core.Logic.{_≢_}
 use mathlib.Core.List.{List, [], _∷_}
 use Prim.Native.Nat.{ℕ}
 use Rattle.triples.specs.declared.Triple.{Triple}
-use Rattle.triples.specs.Shuffles.{f}
-use Rattle.polynomials.specs.Inverses.{Inverted}
+use Rattle.triples.specs.Shuffles.{quadratic}
 use Rattle.polynomials.proofs.Inverses.{inverted-one}
-use Rattle.arp.specs.Arp.{ArpNumbers}
-use Rattle.arp.proofs.Shifting.{arp-numbers-one}
-use Rattle.spreading.specs.Spreads.{Spread}
+use Rattle.arp.proofs.ArpForms.{arp-numbers-one}
 use Rattle.spreading.proofs.Spreads.{spread-one}
-use Rattle.qpp.specs.declared.shuffles.Value.{Value}
-use Rattle.qpp.specs.declared.inverses.InverseForm.{InverseForm}
-use Rattle.qpp.specs.Promises.{Acceptance, SpreadOf, InverseOf}
-use Rattle.qpp.proofs.Determined.{acceptance-one}
+use Rattle.refusals.specs.Refusals.{Acceptance}
+use Rattle.refusals.proofs.Acceptance.{acceptance-one}
 use Rattle.cards.specs.declared.composing.Facts.{Facts}
 use Rattle.cards.specs.Texts.{Appended, Wrote}
 use Rattle.cards.specs.Cards.{Reads, Unreadable, unreadable-card, refused-word, ok-word, row, FactsOf, told, TripleCard, refused, accepted, CardOf, unreadable, readable}
 use Rattle.cards.proofs.Buffers.{wrote-as, wrote-one}
 use Rattle.cards.proofs.Grammar.{reads-one}
-
--- from the calls
-pub facts-are : {t : Triple} {s : Value} {i : InverseForm} (r : Facts) → Acceptance t 0 → InverseOf t i → r .degree ≡ i .degree
-    → r .a ≡ i .a → ArpNumbers t (r .p) (r .q)
-    → SpreadOf t s → r .spread ≡ s .value → FactsOf t r
-facts-are {t} {s} {i} r a inverse d c n w v =
-    record {
-      inverse =
-          subst₂ (λ (D : ℕ) (l : List ℕ). Inverted (t .k) (f t) D l) (sym d) (sym c) (inverse .done (acceptance-one t (inverse .first) a));
-      numbers = n;
-      spread = subst (λ (n : ℕ). Spread (f t) (t .k) n) (sym v) (w .done (acceptance-one t (w .first) a));
-    }
-
-pub acceptance-zero : {t : Triple} {n : ℕ} → Acceptance t n → n ≡ 0 → Acceptance t 0
-acceptance-zero {t} a e = subst (λ (n : ℕ). Acceptance t n) e a
 
 -- ---- the kinds of card, as they are written
 
@@ -45,13 +25,14 @@ module _ {before after : List ℕ} {at end : ℕ} where
   pub card-readable : {line : List ℕ} {t : Triple} → Reads line t → Wrote (TripleCard t) before at after end → Wrote (CardOf line) before at after end
   card-readable {line} {t} r w = wrote-as (λ text c. readable t r c) w
 
-  pub card-refused : {t : Triple} {n : ℕ} → Acceptance t n → n ≢ 0 → Appended before at (row t refused-word (n ∷ [])) after end
+  pub card-refused : {t : Triple} {n : ℕ} → Acceptance (quadratic t) n → n ≢ 0 → Appended before at (row t refused-word (n ∷ [])) after end
       → Wrote (TripleCard t) before at after end
   card-refused {t} {n} a ne w = record { text = row t refused-word (n ∷ []); such = refused n a ne refl; written = w }
 
-  pub card-accepted : {t : Triple} {r : Facts} → Acceptance t 0 → FactsOf t r → Appended before at (row t ok-word (told r)) after end
+  pub card-accepted : {t : Triple} {r : Facts} {n : ℕ} → Acceptance (quadratic t) n → n ≡ 0 → FactsOf t r → Appended before at (row t ok-word (told r)) after end
       → Wrote (TripleCard t) before at after end
-  card-accepted {t} {r} a facts w = record { text = row t ok-word (told r); such = accepted r a facts refl; written = w }
+  card-accepted {t} {r} a z facts w =
+      record { text = row t ok-word (told r); such = accepted r (subst (λ (n : ℕ). Acceptance (quadratic t) n) z a) facts refl; written = w }
 
 -- ---- no second card
 
@@ -64,9 +45,9 @@ facts-one {t} {r} {s} x y =
     cc
 
 triple-card-one : {t : Triple} {a b : List ℕ} → TripleCard t a → TripleCard t b → a ≡ b
-triple-card-one {t} (refused n a _ p) (refused m b _ q) = p ∙ ap (λ (x : ℕ). row t refused-word (x ∷ [])) (acceptance-one t a b) ∙ sym q
-triple-card-one {t} (refused n a ne _) (accepted _ b _ _) = absurd (ne (acceptance-one t a b))
-triple-card-one {t} (accepted _ a _ _) (refused m b ne _) = absurd (ne (acceptance-one t b a))
+triple-card-one {t} (refused n a _ p) (refused m b _ q) = p ∙ ap (λ (x : ℕ). row t refused-word (x ∷ [])) (acceptance-one (quadratic t) a b) ∙ sym q
+triple-card-one {t} (refused n a ne _) (accepted _ b _ _) = absurd (ne (acceptance-one (quadratic t) a b))
+triple-card-one {t} (accepted _ a _ _) (refused m b ne _) = absurd (ne (acceptance-one (quadratic t) b a))
 triple-card-one {t} (accepted _ _ w p) (accepted _ _ v q) = p ∙ ap (row t ok-word) (facts-one w v) ∙ sym q
 
 pub card-one : {line a b : List ℕ} → CardOf line a → CardOf line b → a ≡ b

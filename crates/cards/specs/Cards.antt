@@ -6,11 +6,11 @@ use mathlib.Core.List.{List, [], _∷_, _++_}
 use Prim.Native.Nat.{ℕ}
 use lib.ListN.{take}
 use Rattle.triples.specs.declared.Triple.{Triple}
-use Rattle.triples.specs.Shuffles.{triple, f}
+use Rattle.triples.specs.Shuffles.{triple, f, quadratic}
 use Rattle.polynomials.specs.Inverses.{Inverted}
 use Rattle.arp.specs.Arp.{ArpNumbers}
 use Rattle.spreading.specs.Spreads.{Spread}
-use Rattle.qpp.specs.Promises.{Acceptance}
+use Rattle.refusals.specs.Refusals.{Acceptance}
 use Rattle.cards.specs.declared.reading.Reading.{Reading}
 use Rattle.cards.specs.declared.composing.Facts.{Facts}
 use Rattle.cards.specs.Texts.{space, newline, Lists, fields, listing}
@@ -71,8 +71,8 @@ told r = r .degree ∷ (take (r .degree) (r .a) ++ (r .p ∷ r .q ∷ r .spread 
 
 -- The card of a triple.
 pub data TripleCard (t : Triple) (text : List ℕ) : Type 0 where
-  refused : (n : ℕ) → Acceptance t n → n ≢ 0 → text ≡ row t refused-word (n ∷ []) → TripleCard t text
-  accepted : (r : Facts) → Acceptance t 0 → FactsOf t r → text ≡ row t ok-word (told r) → TripleCard t text
+  refused : (n : ℕ) → Acceptance (quadratic t) n → n ≢ 0 → text ≡ row t refused-word (n ∷ []) → TripleCard t text
+  accepted : (r : Facts) → Acceptance (quadratic t) 0 → FactsOf t r → text ≡ row t ok-word (told r) → TripleCard t text
 
 -- The card of a line that comes without its newline.
 pub data CardOf (line text : List ℕ) : Type 0 where

@@ -8,7 +8,7 @@ use triples::Triple;
 ghost use mathlib.Core.List.{[], _∷_};
 ghost use Prim.Native.Nat.{_+_, _*_, _≤_};
 ghost use lib.ListN.{length, take};
-ghost use Rattle.qpp.specs.Promises.{Acceptance};
+ghost use Rattle.triples.specs.Shuffles.{Shuffle};
 ghost use Rattle.cards.specs.Texts.{fields, listing, Appended, Wrote};
 ghost use Rattle.cards.specs.Cards.{room, members, unreadable-card, refused-word, ok-word, row, FactsOf, told, TripleCard, CardOf};
 ghost use Rattle.cards.specs.Widths.{field-room, AppendedWithin};
@@ -23,20 +23,19 @@ pub struct Facts {
 }
 
 fn facts_of(t: Triple) -> Facts
-    requires { ⌜ Acceptance t 0 ⌝ }
+    requires { ⌜ Shuffle t ⌝ }
     ensures { λ r. ⌜ FactsOf t r ⌝ }
 {
-    let odd = triples::odd_form(t);
-    let found = arp::numbers_of(odd);
-    let spread = qpp::spread(t.k, t.f1, t.f2);
-    let inverse = qpp::inverse(t.k, t.f1, t.f2);
+    let inverse = inverting::inverse(t);
+    let form = arp::form_of(t);
+    let spread = spreading::spread(t);
     let a = inverse.a;
     Facts {
         degree: inverse.degree,
         a,
-        p: found.p,
-        q: found.q,
-        spread: spread.value,
+        p: form.p,
+        q: form.q,
+        spread: spread as u32,
     }
 }
 
@@ -102,8 +101,8 @@ fn of_triple(t: Triple, out: &mut [u8], at: usize) -> usize
     requires { ⌜ at + room ≤ length (now out) ⌝ }
     ensures { λ end. ⌜ Wrote (TripleCard t) (now (out .entry)) at (now (out .exit)) end ⌝ }
 {
-    let refusal = qpp::accept(t.k, t.f1, t.f2);
-    if refusal != 0 {
+    let refusal = refusals::accept(t);
+    if refusal != refusals::DONE {
         return refused(out, at, t, refusal);
     }
     accepted(out, at, t, facts_of(t))

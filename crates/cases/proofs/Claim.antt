@@ -16,7 +16,7 @@ use Rattle.triples.specs.Shuffles.{triple, f, quadratic, Shuffle}
 use Rattle.numbers.proofs.Lists.{written-front}
 use Rattle.arp.specs.Arp.{shift, Period}
 use Rattle.arp.proofs.Periods.{period-double}
-use Rattle.arp.proofs.Shifting.{arp-form, period-one}
+use Rattle.arp.proofs.ArpForms.{arp-form, period-one}
 use Rattle.refusals.specs.Refusals.{Acceptance}
 use Rattle.refusals.proofs.Answers.{answer-late}
 use Rattle.refusals.proofs.Acceptance.{accepted}

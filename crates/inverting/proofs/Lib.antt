@@ -1,6 +1,6 @@
--- `Catalan`: their equation. `Undoing`: the series undoes f. `Sowing`: the loop that makes the series. `Answering`: the series inside
--- the limits is the answer.
+-- `Catalan`: their equation. `SeriesInverse`: the series undoes f. `Growth`: the loop that makes the series. `OddInverse`: the series of the
+-- odd form, inside the limits, is the answer.
 pub mod Catalan
-pub mod Undoing
-pub mod Sowing
-pub mod Answering
+pub mod SeriesInverse
+pub mod Growth
+pub mod OddInverse

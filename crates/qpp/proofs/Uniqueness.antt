@@ -1,10 +1,10 @@
--- No second answer fits: one law for each call.
+-- No second answer fits: one law for each call. (Of acceptance: `acceptance-one`, beside the table.)
 use mathlib.Core.Path.{_≡_, sym, _∙_}
-use mathlib.Core.List.{List, []}
+use mathlib.Core.List.{List}
 use Prim.Native.Nat.{ℕ}
 use Rattle.numbers.proofs.Reciprocals.{reciprocal-one}
 use Rattle.polynomials.proofs.Inverses.{inverted-one}
-use Rattle.arp.proofs.Shifting.{arp-one}
+use Rattle.arp.proofs.ArpForms.{arp-one}
 use Rattle.spreading.proofs.Spreads.{spread-one}
 use Rattle.numbers.proofs.Lists.{written-one}
 use Rattle.permuting.specs.Formulas.{Formula}
@@ -18,12 +18,7 @@ use Rattle.qpp.specs.declared.walker.Start.{Start}
 use Rattle.qpp.specs.declared.walker.Step.{Step}
 use Rattle.qpp.specs.Walkers.{Started, Stepped}
 use Rattle.qpp.specs.Promises.{Address, ReciprocalOf, AddressList, ArpOf, SpreadOf, InverseOf}
-use Rattle.refusals.specs.Refusals.{Acceptance, shuffle-tests}
-use Rattle.refusals.proofs.Tests.{first-one}
 use Rattle.refusals.proofs.Answers.{answer-one}
-
-pub acceptance-one : (φ : Formula) {n m : ℕ} → Acceptance φ n → Acceptance φ m → n ≡ m
-acceptance-one φ = first-one (shuffle-tests φ)
 
 value-same : {r s : Value} → (r .number ≡ s .number) × (r .value ≡ s .value) → r ≡ s
 value-same e = λ i. record { number = e .0 i; value = e .1 i }

@@ -37,6 +37,10 @@ none-reaches k (c ∷ more) b (inl h) = omega (arith, b .0)
 none-reaches k (c ∷ more) b (inr h) = none-reaches k more (b .1) h
 
 module _ (φ : Formula) where
+  -- one number is given
+  pub acceptance-one : {n m : ℕ} → Acceptance φ n → Acceptance φ m → n ≡ m
+  acceptance-one = first-one (shuffle-tests φ)
+
   pub ranged-if : None (range-tests φ) → Ranged φ
   ranged-if h = record { low = low (decLt (φ .length) 2); high = high (decLt 8192 (φ .length)); below = all-below (φ .length) (φ .coefficients) (h .1 .0) }
     where

@@ -1,7 +1,7 @@
 -- What was filled in are the addresses of the odd form without its first coefficient, which are the shifts.
 use borrow.Author.Needs.{needs}
 use Rattle.numbers.proofs.Lists.{written-same}
-use Rattle.arp.proofs.Shifting.{without-first}
+use Rattle.arp.proofs.ArpForms.{without-first}
 use Rattle.arp.proofs.shifts.Statement.{statement}
 use Rattle.arp.proofs.shifts.Tie as tie
 

@@ -3,8 +3,8 @@ use mathlib.Core.Path.{refl}
 use native.Mathlib.Omega.{arith}
 use borrow.Author.Needs.{needs}
 use Rattle.acceptance.proofs.Rule.{odd-unit}
-use Rattle.inverting.proofs.Answering.{answer, invertible, inverted-odd}
-use Rattle.inverting.proofs.Sowing.{zeros}
+use Rattle.inverting.proofs.OddInverse.{answer, invertible, inverted-odd}
+use Rattle.inverting.proofs.Growth.{zeros}
 use Rattle.inverting.proofs.inverse.Statement.{statement}
 use Rattle.inverting.proofs.inverse.Tie as tie
 
@@ -24,7 +24,7 @@ reduce-requires c κs =
     let made = c .before .before .before .before in
     let r = odd-unit (made .before .pre) (made .odd-form .ensures) .range in
     let s = c .before .series .ensures in
-    (r .low, r .high, s .1, omega (arith, s .0 .free, r .low), s .0 .at-most, s .2, s .3)
+    record { low = r .low; high = r .high; inner = s .1; constant = omega (arith, s .0 .free, r .low); at-most = s .0 .at-most; ends = s .2; places = s .3 }
 
 returns : tie.Need-returns
 returns c =

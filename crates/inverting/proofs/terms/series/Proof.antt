@@ -2,12 +2,12 @@
 use Prim.Native.Nat.{_-_, _≤_}
 use native.Mathlib.Omega.{arith}
 use borrow.Author.Needs.{needs}
-use Rattle.inverting.proofs.Sowing.{Sowing, sowing-start, sowing-turn, sowing-full, sowing-short, minus, product-le}
+use Rattle.inverting.proofs.Growth.{Grown, grown-start, grown-turn, grown-full, grown-short, minus, product-le}
 use Rattle.inverting.proofs.terms.series.Statement.{statement}
 use Rattle.inverting.proofs.terms.series.Tie as tie
 
 abbrev Inv-loop : tie.InvT-loop
-Inv-loop k f2 r s₀ minus-one square product step power₀ j₀ s power j = (j ≤ 13) × Sowing k f2 r s power j
+Inv-loop k f2 r s₀ minus-one square product step power₀ j₀ s power j = (j ≤ 13) × Grown k f2 r s power j
 
 abbrev μ-loop : tie.MeasureT-loop
 μ-loop k f2 r s₀ minus-one square product step power₀ j₀ s power j = 13 - j
@@ -27,13 +27,13 @@ times-requires-3 c κs = search needs
 loop-holds : tie.Need-loop-holds Inv-loop μ-loop
 loop-holds c =
     let start = c .before .before .before in
-    (omega arith, sowing-start _ _ _ _ (omega arith) (start .pre .4) (start .pre .3))
+    (omega arith, grown-start _ _ _ _ (omega arith) (start .pre .4) (start .pre .3))
 
 returns : tie.Need-returns Inv-loop μ-loop
 returns c =
     let at = c .before .before in
-    let sowing = at .loop .inv .1 in
-    (sowing-short _ _ _ _ (at .loop .j) _ (omega arith) sowing, omega arith, λ i l. sowing .ends i (omega arith), sowing .long)
+    let grown = at .loop .inv .1 in
+    (grown-short _ _ _ _ (at .loop .j) _ (omega arith) grown, omega arith, λ i l. grown .ends i (omega arith), grown .long)
 
 catalan-at-requires : tie.Need-catalan-at-requires Inv-loop μ-loop
 catalan-at-requires c κs = search needs
@@ -66,15 +66,15 @@ loop-again c =
     let loop = c .before .before .before .before .loop in
     let start = c .before .before .before .before .before in (
       omega arith,
-      sowing-turn _ _ _ _ _ _ _ (loop .j) (loop .s) (omega arith) (omega arith)
+      grown-turn _ _ _ _ _ _ _ (loop .j) (loop .s) (omega arith) (omega arith)
           (minus _ _ _ _ _ _ (start .before .before .times .ensures .0) (start .before .times2 .ensures .0) (start .times3 .ensures .0))
           (c .before .catalan-at .ensures) (c .times4 .ensures) (loop .inv .1),
     )
 
 returns-2 : tie.Need-returns-2 Inv-loop μ-loop
 returns-2 c =
-    let sowing = c .before .loop .inv .1 in
-    (sowing-full _ _ _ _ _ _ (omega arith) sowing, omega arith, λ i l. sowing .ends i (omega arith), sowing .long)
+    let grown = c .before .loop .inv .1 in
+    (grown-full _ _ _ _ _ _ (omega arith) grown, omega arith, λ i l. grown .ends i (omega arith), grown .long)
 
 pub series-spec : {M : Type 1} → statement M
 series-spec =

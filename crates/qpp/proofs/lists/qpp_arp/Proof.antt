@@ -8,7 +8,7 @@ use mathlib.Core.Path.{_≡_}
 use mathlib.Core.List.{[], _∷_}
 use Rattle.triples.specs.Shuffles.{oddForm}
 use Rattle.arp.specs.Arp.{Period, ArpNumbers}
-use Rattle.arp.proofs.Shifting.{arp-form, period-one}
+use Rattle.arp.proofs.ArpForms.{arp-form, period-one}
 use Rattle.refusals.specs.Refusals.{First, no-list}
 use Rattle.refusals.proofs.Answers.{refuse-early, refuse-late, answer-late}
 use Rattle.refusals.proofs.Acceptance.{accepted}

@@ -21,7 +21,7 @@ use Rattle.numbers.specs.Reciprocals.{Reciprocal}
 use Rattle.numbers.proofs.Absorption.{absorbed-power}
 use Rattle.acceptance.proofs.Rule.{odd-unit}
 use Rattle.inverting.specs.Invertible.{Invertible}
-use Rattle.inverting.proofs.Undoing.{onto, undoes}
+use Rattle.inverting.proofs.SeriesInverse.{onto, undoes}
 
 pub answer : (t : Triple) (r D : ℕ) (s g a : List ℕ) → Invertible t r → Series (t .k) (t .f2) r s → Reduced (t .k) (wholes s) (wholes g) → Degree (wholes g) D
     → D ≤ 13 → length g ≡ 14 → a ≡ drop 1 g → Inverted (t .k) (f t) D a

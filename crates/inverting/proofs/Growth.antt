@@ -16,14 +16,14 @@ use Rattle.numbers.proofs.Lists.{filled-more}
 use Rattle.inverting.specs.Series.{catalan, term, Series}
 
 -- x is the term at the place i, up to multiples of k, and leaves room in 32 bits
-abbrev pub Sown : ℕ → ℕ → ℕ → ℕ → ℕ → Type 0
-Sown k f2 r i x = Cong k x (term k f2 r i) × (x ≤ 2147483648)
+abbrev pub TermAt : ℕ → ℕ → ℕ → ℕ → ℕ → Type 0
+TermAt k f2 r i x = Cong k x (term k f2 r i) × (x ≤ 2147483648)
 
--- the places up to j are sown, the others hold 0, and power is what the next term multiplies
-pub record Sowing (k f2 r : ℕ) (s : List ℕ) (power j : ℕ) : Type 0 where
+-- the places up to j have their terms, the others hold 0, and power is what the next term multiplies
+pub record Grown (k f2 r : ℕ) (s : List ℕ) (power j : ℕ) : Type 0 where
   pub long : length s ≡ 14
   pub free : getD s 0 0 ≡ 0
-  pub places : (i : ℕ) → i < j + 1 → Sown k f2 r i (getD s i 0)
+  pub places : (i : ℕ) → i < j + 1 → TermAt k f2 r i (getD s i 0)
   pub ends : Ends j s
   pub below : power < k
   pub is : Cong k power (r * ((k - 1) * (f2 * (r * r))) ^ j)
@@ -33,14 +33,14 @@ zeros zero k = omega arith
 zeros (suc n) zero = omega arith
 zeros (suc n) (suc k) = zeros n k
 
-pub sowing-start : (k f2 r : ℕ) (s : List ℕ) → r < k → length s ≡ 14 → AtMost 0 s → Sowing k f2 r s r 0
+pub grown-start : (k f2 r : ℕ) (s : List ℕ) → r < k → length s ≡ 14 → AtMost 0 s → Grown k f2 r s r 0
 unfolding term
-sowing-start k f2 r s below long empty =
+grown-start k f2 r s below long empty =
     record {
       long = long;
       free = omega (arith, empty 0);
       places = λ i l. let e : 0 ≡ i = omega arith in
-          subst (λ (n : ℕ). Sown k f2 r n (getD s n 0)) e (cong-eq (omega (arith, empty 0)), omega (arith, empty 0));
+          subst (λ (n : ℕ). TermAt k f2 r n (getD s n 0)) e (cong-eq (omega (arith, empty 0)), omega (arith, empty 0));
       ends = λ i l. omega (arith, empty i);
       below = below;
       is = cong-eq (omega (arith, ap (λ (t : ℕ). r * t) (pow-zero ((k - 1) * (f2 * (r * r))))));
@@ -58,15 +58,15 @@ minus k f2 r square product step e f g = whole (k - 1) (whole f2 (whole r (cong-
 pub product-le : (power a : ℕ) → power ≤ 8192 → a < 262144 → power * a ≤ 2147483648
 product-le power a l h = mul-le-mul {n₁ = power} {m₁ = a} {n₂ = 8192} {m₂ = 262144} l (omega arith)
 
-pub sowing-turn : (k f2 r step power a next j : ℕ) (s : List ℕ) → k ≤ 8192 → j < 13 → Cong k step ((k - 1) * (f2 * (r * r)))
-    → (a ≡ getD catalan j 0) × (a < 262144) → (next ≡ power * step % k) × (next < k) → Sowing k f2 r s power j → Sowing k f2 r (set s (j + 1) (power * a)) next (j + 1)
+pub grown-turn : (k f2 r step power a next j : ℕ) (s : List ℕ) → k ≤ 8192 → j < 13 → Cong k step ((k - 1) * (f2 * (r * r)))
+    → (a ≡ getD catalan j 0) × (a < 262144) → (next ≡ power * step % k) × (next < k) → Grown k f2 r s power j → Grown k f2 r (set s (j + 1) (power * a)) next (j + 1)
 unfolding term
-sowing-turn k f2 r step power a next j s small l minus (ea, la) (en, ln) g =
+grown-turn k f2 r step power a next j s small l minus (ea, la) (en, ln) g =
     record {
       long = length-set s (j + 1) (power * a) ∙ g .long;
       free = getD-set-other s (j + 1) 0 (power * a) 0 (omega arith) ∙ g .free;
       places =
-          filled-more (Sown k f2 r) s (j + 1) (power * a) (omega (arith, g .long)) (g .places) (here, product-le power a (omega (arith, g .below)) la);
+          filled-more (TermAt k f2 r) s (j + 1) (power * a) (omega (arith, g .long)) (g .places) (here, product-le power a (omega (arith, g .below)) la);
       ends = λ i h. getD-set-other s (j + 1) i (power * a) 0 (omega arith) ∙ g .ends i (omega arith);
       below = ln;
       is = cong-eq en ⨾ cong-sym (cong-mod k (power * step)) ⨾ cong-mul (g .is) minus ⨾ cong-eq grown;
@@ -82,17 +82,17 @@ sowing-turn k f2 r step power a next j s small l minus (ea, la) (en, ln) g =
     here = cong-mul (g .is) (cong-eq ea) ⨾ cong-eq (omega (arith, ap (λ (i : ℕ). term k f2 r i) (add-one j)))
 
 -- where the terms past j are 0, the series is whole
-sowing-end : (k f2 r power j : ℕ) (s : List ℕ) → ((i : ℕ) → j < i → Cong k 0 (term k f2 r i)) → Sowing k f2 r s power j → Series k f2 r s
-sowing-end k f2 r power j s rest g = record { free = g .free; terms = λ i. place i (decLt i (j + 1)) .0; at-most = λ i. place i (decLt i (j + 1)) .1 }
+grown-end : (k f2 r power j : ℕ) (s : List ℕ) → ((i : ℕ) → j < i → Cong k 0 (term k f2 r i)) → Grown k f2 r s power j → Series k f2 r s
+grown-end k f2 r power j s rest g = record { free = g .free; terms = λ i. place i (decLt i (j + 1)) .0; at-most = λ i. place i (decLt i (j + 1)) .1 }
   where
-    place : (i : ℕ) → Dec (i < j + 1) → Sown k f2 r i (getD s i 0)
+    place : (i : ℕ) → Dec (i < j + 1) → TermAt k f2 r i (getD s i 0)
     place i (yes h) = g .places i h
     place i (no h) = let z : getD s i 0 ≡ 0 = g .ends i (omega arith) in (cong-eq z ⨾ rest i (omega arith), omega arith)
 
 -- past the thirteenth place there is no Catalan number
-pub sowing-full : (k f2 r power j : ℕ) (s : List ℕ) → 13 ≤ j → Sowing k f2 r s power j → Series k f2 r s
+pub grown-full : (k f2 r power j : ℕ) (s : List ℕ) → 13 ≤ j → Grown k f2 r s power j → Series k f2 r s
 unfolding term catalan
-sowing-full k f2 r power j s l g = sowing-end k f2 r power j s (λ i h. cong-eq (sym (none i (omega arith)))) g
+grown-full k f2 r power j s l g = grown-end k f2 r power j s (λ i h. cong-eq (sym (none i (omega arith)))) g
   where
     none : (i : ℕ) → 14 ≤ i → term k f2 r i ≡ 0
     none zero h = refl
@@ -101,9 +101,9 @@ sowing-full k f2 r power j s l g = sowing-end k f2 r power j s (λ i h. cong-eq 
         omega (arith, ap (λ (t : ℕ). r * (c ^ i * t)) (List·getD-eq-default catalan 0 {n = i} (omega arith)))
 
 -- after a power that is 0 every term is
-pub sowing-short : (k f2 r power j : ℕ) (s : List ℕ) → power ≡ 0 → Sowing k f2 r s power j → Series k f2 r s
+pub grown-short : (k f2 r power j : ℕ) (s : List ℕ) → power ≡ 0 → Grown k f2 r s power j → Series k f2 r s
 unfolding term
-sowing-short k f2 r power j s e0 g = sowing-end k f2 r power j s none g
+grown-short k f2 r power j s e0 g = grown-end k f2 r power j s none g
   where
     c : ℕ
     c = (k - 1) * (f2 * (r * r))
