@@ -1,4 +1,4 @@
--- The test for permuting, in the words of the scope. These are definitions; that they say the same as `Permutes` is proved.
+-- To be believed: the test for permuting, in the words of the scope. That it says the same as `Permutes` is proved.
 use mathlib.Core.Path.{_≡_}
 use mathlib.Core.Logic.{_≢_}
 use Prim.Native.Nat.{ℕ, _+_, _/_, _%_, _∣_}

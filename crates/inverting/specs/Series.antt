@@ -1,4 +1,4 @@
--- The series that undoes f, before it is brought inside the limits. These are definitions.
+-- Serves inside: the series that undoes f, before it is brought inside the limits.
 use mathlib.Core.Path.{_≡_}
 use mathlib.Core.List.{List, [], _∷_}
 use Prim.Native.Nat.{ℕ, zero, suc, _*_, _-_, _^_}

@@ -11,20 +11,8 @@ returns c = own-form _ (λ even. absurd (c .if1 .taken even))
 returns-2 : tie.Need-returns-2
 returns-2 c = own-form _ (λ _. c .if2 .taken)
 
-add-t4 : tie.Need-add-t4
-add-t4 c = search needs
-
-rem-t5 : tie.Need-rem-t5
-rem-t5 c = search needs
-
-add-t7 : tie.Need-add-t7
-add-t7 c = search needs
-
-rem-t8 : tie.Need-rem-t8
-rem-t8 c = search needs
-
 returns-3 : tie.Need-returns-3
 returns-3 c = even-form _ (omega arith) (omega arith)
 
 pub odd-form-spec : {M : Type 1} → statement M
-odd-form-spec = tie.close (tie.spec returns returns-2 add-t4 rem-t5 add-t7 rem-t8 returns-3)
+odd-form-spec = tie.close (tie.spec returns returns-2 (λ c. search needs) (λ c. search needs) (λ c. search needs) (λ c. search needs) returns-3)

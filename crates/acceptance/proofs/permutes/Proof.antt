@@ -1,16 +1,10 @@
--- `permutes` meets its contract, by the rule.
+-- Both returns are the rule, by the odd form: the gcd decides on f1, absorption on f2.
 use native.Mathlib.Omega.{arith}
 use Rattle.acceptance.proofs.OddForm.{in-form}
 use Rattle.acceptance.proofs.Rule.{refused-by-gcd, decided-by-absorption}
 use borrow.Author.Needs.{needs}
 use Rattle.acceptance.proofs.permutes.Statement.{statement}
 use Rattle.acceptance.proofs.permutes.Tie as tie
-
-odd-form-requires : tie.Need-odd-form-requires
-odd-form-requires c κs = search needs
-
-gcd-requires : tie.Need-gcd-requires
-gcd-requires c κs = search needs
 
 returns : tie.Need-returns
 returns c = refused-by-gcd _ (c .before .before .before .pre) (c .before .before .odd-form .ensures) (c .before .gcd .ensures) (c .if1 .taken)
@@ -21,8 +15,10 @@ absorbs-requires c κs =
 
 returns-2 : tie.Need-returns-2
 returns-2 c =
-    decided-by-absorption _ (c .before .before .before .before .pre) (c .before .before .before .odd-form .ensures) (c .before .before .gcd .ensures) (omega arith) (c .absorbs .ensures)
+    let asked = c .before .before in
+    let made = asked .before in
+    decided-by-absorption _ (made .before .pre) (made .odd-form .ensures) (asked .gcd .ensures) (omega arith) (c .absorbs .ensures)
 
 pub permutes-spec : {M : Type 1} → statement M
 permutes-spec =
-    tie.close (tie.spec odd-form-requires gcd-requires returns absorbs-requires returns-2)
+    tie.close (tie.spec (λ c κs. search needs) (λ c κs. search needs) returns absorbs-requires returns-2)

@@ -16,21 +16,6 @@ triple-at c = c .before .before .before .args .t
 near : (c : tie.After-struct-known3) → Quotient (triple-at c .k) (scale / triple-at c .k) (scale % triple-at c .k)
 near c = quotient (triple-at c .k) (omega arith) (omega arith)
 
-cast-k : tie.Need-cast-k
-cast-k c = search needs
-
-cast-f1 : tie.Need-cast-f1
-cast-f1 c = search needs
-
-cast-f2 : tie.Need-cast-f2
-cast-f2 c = search needs
-
-div-below : tie.Need-div-below
-div-below c = search needs
-
-mul-if1 : tie.Need-mul-if1
-mul-if1 c = search needs
-
 add-above : tie.Need-add-above
 add-above c = omega (arith, div-le-self scale (triple-at (c .before) .k))
 
@@ -41,10 +26,8 @@ mul-t11 : tie.Need-mul-t11
 mul-t11 c = omega (arith, above-lt _ _ _ (near (c .before)) (triple-at (c .before) .f2) (omega arith))
 
 returns : tie.Need-returns
-returns c = scaled-above (triple-at (c .before)) (c .before .before .before .before .pre) _ _ (near (c .before)) (omega arith)
-
-rem-rest : tie.Need-rem-rest
-rem-rest c = search needs
+returns c =
+    let known = c .before in scaled-above (triple-at known) (known .before .before .before .pre) _ _ (near known) (omega arith)
 
 mul-t8 : tie.Need-mul-t8
 mul-t8 c = omega (arith, below-lt _ _ _ (near (c .before)) (triple-at (c .before) .f1) (omega arith))
@@ -59,22 +42,23 @@ add-t14 : tie.Need-add-t14
 add-t14 c = omega (arith, below-lt _ _ _ (near (c .before)) (triple-at (c .before) .f2) (omega arith))
 
 returns-2 : tie.Need-returns-2
-returns-2 c = scaled-below (triple-at (c .before)) (c .before .before .before .before .pre) _ _ (near (c .before)) (omega arith)
+returns-2 c =
+    let known = c .before in scaled-below (triple-at known) (known .before .before .before .pre) _ _ (near known) (omega arith)
 
 pub map-of-spec : {M : Type 1} → statement M
 map-of-spec =
     tie.close
     (tie.spec
-    cast-k
-    cast-f1
-    cast-f2
-    div-below
-    mul-if1
+    (λ c. search needs)
+    (λ c. search needs)
+    (λ c. search needs)
+    (λ c. search needs)
+    (λ c. search needs)
     add-above
     mul-t10
     mul-t11
     returns
-    rem-rest
+    (λ c. search needs)
     mul-t8
     add-t12
     mul-t13

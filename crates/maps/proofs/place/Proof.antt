@@ -17,9 +17,6 @@ add-slope c = let a = c .before .before .args in omega (arith, times-small (a .m
 mul-part : tie.Need-mul-part
 mul-part c = let a = c .before .before .args in omega (arith, rest-small (a .map .f1 + a .map .f2 * a .x) (a .x))
 
-cast-result : tie.Need-cast-result
-cast-result c = search needs
-
 mul-result : tie.Need-mul-result
 mul-result c =
     let a = c .before .before .before .args in
@@ -32,4 +29,4 @@ returns c =
 
 pub place-spec : {M : Type 1} → statement M
 place-spec =
-    tie.close (tie.spec mul-slope add-slope mul-part cast-result mul-result returns)
+    tie.close (tie.spec mul-slope add-slope mul-part (λ c. search needs) mul-result returns)

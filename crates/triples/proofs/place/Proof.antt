@@ -1,4 +1,4 @@
--- `place` meets its contract: each factor is below 8192, so that the sum is far below 2 to the 64th.
+-- Each factor is below 8192, so that the sum is far below 2 to the 64th.
 use mathlib.Core.Path.{refl}
 use Prim.Native.Nat.{_+_, _*_}
 use native.Mathlib.Nat.{mod-lt}
@@ -8,14 +8,8 @@ use Rattle.triples.proofs.Values.{line-small, square-small}
 use Rattle.triples.proofs.place.Statement.{statement}
 use Rattle.triples.proofs.place.Tie as tie
 
-cast-first : tie.Need-cast-first
-cast-first c = search needs
-
 mul-first : tie.Need-mul-first
 mul-first c = let a = c .before .args in omega (arith, line-small (a .t .f1) (a .x) (omega arith) (omega arith))
-
-cast-second : tie.Need-cast-second
-cast-second c = search needs
 
 mul-second : tie.Need-mul-second
 mul-second c = let x = c .before .before .args .x in omega (arith, line-small x x (omega arith) (omega arith))
@@ -29,12 +23,6 @@ add-result c =
     let a = c .before .before .args in
     omega (arith, line-small (a .t .f1) (a .x) (omega arith) (omega arith), square-small (a .t .f2) (a .x) (omega arith) (omega arith))
 
-cast-result : tie.Need-cast-result
-cast-result c = search needs
-
-rem-result : tie.Need-rem-result
-rem-result c = search needs
-
 returns : tie.Need-returns
 returns c = let a = c .before .before .before .args in (refl, mod-lt (a .t .f1 * a .x + a .t .f2 * (a .x * a .x)) (omega arith))
 
@@ -42,12 +30,12 @@ pub place-spec : {M : Type 1} → statement M
 place-spec =
     tie.close
     (tie.spec
-    cast-first
+    (λ c. search needs)
     mul-first
-    cast-second
+    (λ c. search needs)
     mul-second
     mul-second-2
     add-result
-    cast-result
-    rem-result
+    (λ c. search needs)
+    (λ c. search needs)
     returns)

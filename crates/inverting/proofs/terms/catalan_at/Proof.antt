@@ -1,4 +1,4 @@
--- `catalan_at` meets its contract: the table is the list, and each number of it has at most 18 bits.
+-- The table is the list, and each number of it has at most 18 bits.
 use mathlib.Core.Path.{refl}
 use mathlib.Core.Bool.{Bool}
 use Prim.Native.Nat.{ℕ, _<_}
@@ -17,15 +17,9 @@ catalan-small : (j : ℕ) → j < 13 → getD catalan j 0 < 262144
 unfolding small catalan
 catalan-small j l = ltb→lt (getD catalan j 0) 262144 (passes 13 small tt j l)
 
-mul-result : tie.Need-mul-result
-mul-result c = search needs
-
-array-read-result : tie.Need-array-read-result
-array-read-result c = search needs
-
 returns : tie.Need-returns
 unfolding catalan
 returns c = (refl, catalan-small (c .args .j) (search needs))
 
 pub catalan-at-spec : {M : Type 1} → statement M
-catalan-at-spec = tie.close (tie.spec mul-result array-read-result returns)
+catalan-at-spec = tie.close (tie.spec (λ c. search needs) (λ c. search needs) returns)

@@ -1,4 +1,5 @@
--- `series` meets its contract, one term after the other.
+-- The loop's invariant, `Grown`: the places up to j have their terms, the others are 0, and power is what the next term multiplies. 13 - j
+-- falls; the loop ends at j = 13, where no Catalan number is left, or at a power that is 0, after which every term is.
 use Prim.Native.Nat.{_-_, _≤_}
 use native.Mathlib.Omega.{arith}
 use borrow.Author.Needs.{needs}
@@ -12,18 +13,6 @@ Inv-loop k f2 r s₀ minus-one square product step power₀ j₀ s power j = (j 
 abbrev μ-loop : tie.MeasureT-loop
 μ-loop k f2 r s₀ minus-one square product step power₀ j₀ s power j = 13 - j
 
-sub-minus-one : tie.Need-sub-minus-one Inv-loop μ-loop
-sub-minus-one c = search needs
-
-times-requires : tie.Need-times-requires Inv-loop μ-loop
-times-requires c κs = search needs
-
-times-requires-2 : tie.Need-times-requires-2 Inv-loop μ-loop
-times-requires-2 c κs = search needs
-
-times-requires-3 : tie.Need-times-requires-3 Inv-loop μ-loop
-times-requires-3 c κs = search needs
-
 loop-holds : tie.Need-loop-holds Inv-loop μ-loop
 loop-holds c =
     let start = c .before .before .before in
@@ -35,31 +24,10 @@ returns c =
     let grown = at .loop .inv .1 in
     (grown-short _ _ _ _ (at .loop .j) _ (omega arith) grown, omega arith, λ i l. grown .ends i (omega arith), grown .long)
 
-catalan-at-requires : tie.Need-catalan-at-requires Inv-loop μ-loop
-catalan-at-requires c κs = search needs
-
 mul-s : tie.Need-mul-s Inv-loop μ-loop
 mul-s c =
     let at = c .before .before .before in
     omega (arith, product-le (at .loop .power) (c .catalan-at .result) (omega (arith, at .loop .inv .1 .below)) (c .catalan-at .ensures .1))
-
-add-s : tie.Need-add-s Inv-loop μ-loop
-add-s c = search needs
-
-mul-s-2 : tie.Need-mul-s-2 Inv-loop μ-loop
-mul-s-2 c = search needs
-
-element-write-s : tie.Need-element-write-s Inv-loop μ-loop
-element-write-s c = search needs
-
-times-requires-4 : tie.Need-times-requires-4 Inv-loop μ-loop
-times-requires-4 c κs = search needs
-
-add-j : tie.Need-add-j Inv-loop μ-loop
-add-j c = search needs
-
-loop-less : tie.Need-loop-less Inv-loop μ-loop
-loop-less c = search needs
 
 loop-again : tie.Need-loop-again Inv-loop μ-loop
 loop-again c =
@@ -79,4 +47,4 @@ returns-2 c =
 pub series-spec : {M : Type 1} → statement M
 series-spec =
     tie.close
-    (tie.spec Inv-loop μ-loop sub-minus-one times-requires times-requires-2 times-requires-3 loop-holds returns catalan-at-requires mul-s add-s mul-s-2 element-write-s times-requires-4 add-j loop-less loop-again returns-2)
+    (tie.spec Inv-loop μ-loop (λ c. search needs) (λ c κs. search needs) (λ c κs. search needs) (λ c κs. search needs) loop-holds returns (λ c κs. search needs) mul-s (λ c. search needs) (λ c. search needs) (λ c. search needs) (λ c κs. search needs) (λ c. search needs) (λ c. search needs) loop-again returns-2)

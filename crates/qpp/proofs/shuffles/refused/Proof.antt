@@ -1,4 +1,4 @@
--- `refused` meets its contract.
+-- The fields are as they were written.
 use mathlib.Core.Path.{refl}
 use Rattle.qpp.proofs.shuffles.refused.Statement.{statement}
 use Rattle.qpp.proofs.shuffles.refused.Tie as tie

@@ -16,8 +16,11 @@ use Rattle.qpp.specs.Walkers.{walker, own-tests, step-tests}
 use Rattle.qpp.proofs.walker.Walker.step.Statement.{statement}
 use Rattle.qpp.proofs.walker.Walker.step.Tie as tie
 
--- the tests gave 0
-first : (c : tie.After-struct-known) → First (step-tests (c .before .before .before .before .args .self)) 0
+-- the walker, where the tests gave 0
+abbrev walker-at : tie.After-struct-known → Walker
+walker-at c = c .before .before .before .before .args .self
+
+first : (c : tie.After-struct-known) → First (step-tests (walker-at c)) 0
 first c =
     let entered = c .before .before in
     let b = entered .before .stands in
@@ -39,16 +42,15 @@ below w first = placed (splits (range-tests (quadratic (w .triple))) (own-tests 
 
 place-requires : tie.Need-place-requires
 place-requires c κs =
-    let w = c .before .before .before .before .args .self in (ranged (own-tests w) (first c) refl, below w (first c))
+    let w = walker-at c in (ranged (own-tests w) (first c) refl, below w (first c))
 
 after-requires : tie.Need-after-requires
-after-requires c κs = let known = c .before in below (known .before .before .before .before .args .self) (first known)
+after-requires c κs = let known = c .before in below (walker-at known) (first known)
 
 returns-2 : tie.Need-returns-2
 returns-2 c =
     let known = c .before .before in
-    let w = known .before .before .before .before .args .self in
-    answering (first known) refl (c .before .place .ensures .0, ap (λ (n : ℕ). walker (w .triple) n) (c .after .ensures))
+    answering (first known) refl (c .before .place .ensures .0, ap (λ (n : ℕ). walker (walker-at known .triple) n) (c .after .ensures))
 
 pub step-spec : {M : Type 1} → statement M
 step-spec =
