@@ -9,10 +9,9 @@ use lib.Dec.{T, eqb}
 use lib.ListN.{length, getD, replicate, length-append}
 use Rattle.permuting.specs.Blocks.{Direction, interleave, deinterleave, marks-of, MovedBlock}
 use Rattle.permuting.proofs.Scratch.{cleared-front}
-use Rattle.polynomials.proofs.Instances.{inverse-test}
-use Rattle.polynomials.proofs.Instances.{inverted-by-test}
+use Rattle.polynomials.proofs.Instances.{inverse-test, inverted-by-test}
 use Rattle.triples.specs.declared.Triple.{Triple}
-use Rattle.triples.specs.Shuffles.{triple, f, quadratic, Shuffle}
+use Rattle.triples.specs.Shuffles.{triple, f, quadratic}
 use Rattle.numbers.proofs.Lists.{written-front}
 use Rattle.arp.specs.Arp.{shift, Period}
 use Rattle.arp.proofs.Periods.{period-double}
@@ -73,3 +72,36 @@ arp-8 room rest e =
 
     period : Period (triple 8 1 4) 2
     period = period-double (triple 8 1 4) 8 1 (omega arith) (record { left = dvd-refl 8; right = dvd-refl 8; greatest = λ d p q. p }) refl (λ e. omega arith) (λ e. omega arith)
+
+infixr 4 _&_
+_&_ : {A B : Type 0} → A → B → A × B
+a & b = (a, b)
+
+pub cases-hold : All cases
+cases-hold =
+    judged-as (triple 2 0 1) 0 tt
+    & inverts (triple 2 0 1) 1 (1 ∷ replicate 12 0) tt refl tt
+    & judged-as (triple 2 1 1) 3 tt
+    & judged-as (triple 3 1 1) 3 tt
+    & listed (triple 3 1 1) (0 ∷ 2 ∷ 0 ∷ []) refl tt
+    & judged-as (triple 4 1 2) 0 tt
+    & listed (triple 4 1 2) (0 ∷ 3 ∷ 2 ∷ 1 ∷ []) refl tt
+    & inverts (triple 4 1 2) 1 (3 ∷ replicate 12 0) tt refl tt
+    & judged-as (triple 4 1 1) 3 tt
+    & judged-as (triple 6 2 3) 0 tt
+    & listed (triple 6 2 3) (0 ∷ 5 ∷ 4 ∷ 3 ∷ 2 ∷ 1 ∷ []) refl tt
+    & inverts (triple 6 2 3) 1 (5 ∷ replicate 12 0) tt refl tt
+    & interleaved (triple 6 2 3) tt (65 ∷ 66 ∷ 67 ∷ 68 ∷ 69 ∷ 70 ∷ []) (65 ∷ 70 ∷ 69 ∷ 68 ∷ 67 ∷ 66 ∷ []) refl refl tt
+    & judged-as (triple 8 1 4) 0 tt
+    & inverts (triple 8 1 4) 1 (5 ∷ replicate 12 0) tt refl tt
+    & arp-8
+    & judged-as (triple 9 1 3) 0 tt
+    & inverts (triple 9 1 3) 2 (1 ∷ 6 ∷ replicate 11 0) tt refl tt
+    & interleaved (triple 9 1 3) tt letters (65 ∷ 69 ∷ 70 ∷ 68 ∷ 72 ∷ 73 ∷ 71 ∷ 66 ∷ 67 ∷ []) refl refl tt
+    & deinterleaved (triple 9 1 3) tt letters (65 ∷ 72 ∷ 73 ∷ 68 ∷ 66 ∷ 67 ∷ 71 ∷ 69 ∷ 70 ∷ []) refl refl tt
+    & inverts (triple 40 3 10) 2 (27 ∷ 10 ∷ replicate 11 0) tt refl tt
+    & answer-late tt (judged-as (triple 40 3 10) 0 tt) refl refl refl (record { below = omega arith; product = refl })
+    & judged-as (triple 1 0 0) 1 tt
+    & judged-as (triple 5 5 0) 2 tt
+    & judged-as (triple 5 0 0) 3 tt
+    & tt

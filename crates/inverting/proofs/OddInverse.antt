@@ -7,16 +7,14 @@ use lib.ListN.{length, drop, length-drop}
 use lib.IntN.{ℤ, pos}
 use lib.Seq.{drop-cons}
 use Rattle.polynomials.specs.Polynomials.{coefficient, wholes}
-use Rattle.polynomials.specs.Reductions.{Degree}
-use Rattle.polynomials.specs.Reductions.{Reduced}
+use Rattle.polynomials.specs.Reductions.{Degree, Reduced}
 use Rattle.polynomials.proofs.Differences.{positive}
 use Rattle.polynomials.proofs.Naturals.{wholes-place}
-use Rattle.polynomials.proofs.Inverses.{inverse-polynomial, undoes-reduced}
+use Rattle.polynomials.proofs.Inverses.{inverse-polynomial, undoes-reduced, inverted-from, inverted-same}
 use Rattle.inverting.specs.Series.{Series}
 use Rattle.triples.specs.declared.Triple.{Triple}
 use Rattle.triples.specs.Shuffles.{f, Shuffle, oddForm}
 use Rattle.polynomials.specs.Inverses.{InversePolynomial, from-first, Inverted}
-use Rattle.polynomials.proofs.Inverses.{inverted-from, inverted-same}
 use Rattle.numbers.specs.Reciprocals.{Reciprocal}
 use Rattle.numbers.proofs.Absorption.{absorbed-power}
 use Rattle.acceptance.proofs.Rule.{odd-unit}

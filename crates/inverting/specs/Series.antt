@@ -1,8 +1,8 @@
 -- Serves inside: the series that undoes f, before it is brought inside the limits.
 use mathlib.Core.Path.{_≡_}
 use mathlib.Core.List.{List, [], _∷_}
-use Prim.Native.Nat.{ℕ, zero, suc, _*_, _-_, _^_}
-use lib.ListN.{getD}
+use Prim.Native.Nat.{ℕ, zero, suc, _*_, _-_, _^_, _≤_, _<_}
+use lib.ListN.{length, getD}
 use Rattle.numbers.specs.Congruences.{Cong}
 use Rattle.polynomials.specs.Reductions.{AtMost}
 
@@ -20,3 +20,11 @@ pub record Series (k f2 r : ℕ) (s : List ℕ) : Type 0 where
   pub free : getD s 0 0 ≡ 0
   pub terms : (j : ℕ) → Cong k (getD s j 0) (term k f2 r j)
   pub at-most : AtMost 2147483648 s
+
+-- What making the series asks: numbers in range, and fourteen places of zeros.
+pub record Blank (k f2 r : ℕ) (s : List ℕ) : Type 0 where
+  pub few : k ≤ 8192
+  pub second : f2 < k
+  pub reciprocal : r < k
+  pub zeros : AtMost 0 s
+  pub places : length s ≡ 14

@@ -2,8 +2,8 @@
 ghost use mathlib.Core.Path.{_≡_};
 ghost use Prim.Native.Nat.{_≤_, _<_};
 ghost use lib.ListN.{length, getD};
-ghost use Rattle.polynomials.specs.Reductions.{Ends, AtMost};
-ghost use Rattle.inverting.specs.Series.{catalan, Series};
+ghost use Rattle.polynomials.specs.Reductions.{Ends};
+ghost use Rattle.inverting.specs.Series.{catalan, Series, Blank};
 
 const CATALAN: [u32; 13] = [
     1,
@@ -32,7 +32,7 @@ fn catalan_at(j: usize) -> u32
 // The series, written into s, which holds zeros; and its highest place. Once a power is 0 modulo k, so are all that follow. A product
 // of 13 and of 18 bits has 31, and is not brought below k here.
 pub fn series(k: u32, f2: u32, r: u32, s: &mut [u32; 14]) -> usize
-    requires { ⌜ (k ≤ 8192) × (f2 < k) × (r < k) × AtMost 0 (now s) × (length (now s) ≡ 14) ⌝ }
+    requires { ⌜ Blank k f2 r (now s) ⌝ }
     ensures { λ top. ⌜ Series k f2 r (now (s .exit)) × (top ≤ 13) × Ends top (now (s .exit)) × (length (now (s .exit)) ≡ 14) ⌝ }
 {
     let minus_one = k - 1;

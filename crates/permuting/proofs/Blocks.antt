@@ -7,9 +7,8 @@ use native.Mathlib.Omega.{arith}
 use lib.ListN.{length, getD}
 use Rattle.permuting.specs.Permutations.{Permutation, count}
 use Rattle.permuting.specs.Blocks.{Direction, interleave, deinterleave, Permuted, MovedBlock}
-use Rattle.permuting.proofs.Permutations.{interleaved-count}
+use Rattle.permuting.proofs.Permutations.{interleaved-count, interleaved-one, deinterleaved-one, interleave-then-deinterleave, deinterleave-then-interleave, deinterleaved-count}
 use Rattle.permuting.proofs.Scratch.{cleared-one}
-use Rattle.permuting.proofs.Permutations.{interleaved-one, deinterleaved-one, interleave-then-deinterleave, deinterleave-then-interleave, deinterleaved-count}
 
 abbrev pub opposite : Direction → Direction
 opposite interleave = deinterleave

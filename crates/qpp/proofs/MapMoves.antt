@@ -1,11 +1,10 @@
 -- The map of a shuffle: a mover may take it, and what it moves is what the promise says.
 use mathlib.Core.Path.{_≡_, sym, subst, _∙_}
-use mathlib.Core.List.{List, _++_}
+use mathlib.Core.List.{List}
 use Prim.Native.Nat.{ℕ, _+_, _*_, _≤_, _<_}
 use native.Mathlib.Nat.{mod-lt}
 use native.Mathlib.Omega.{arith}
 use lib.ListN.{length}
-use Rattle.permuting.specs.Formulas.{Formula}
 use Rattle.permuting.specs.Permutations.{Permutation}
 use Rattle.permuting.specs.Blocks.{Direction, marks-of, MovedBlock}
 use Rattle.permuting.proofs.Blocks.{moved-as}

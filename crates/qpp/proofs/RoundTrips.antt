@@ -11,7 +11,7 @@ use Rattle.permuting.specs.Permutations.{Permutation, count}
 use Rattle.permuting.specs.Blocks.{Direction, marks-of, MovedBlock}
 use Rattle.permuting.proofs.Blocks.{opposite, moved-size, moved-one, moved-back, moved-count}
 use Rattle.permuting.proofs.Scratch.{cleared-one, cleared-length, cleared-twice}
-use Rattle.refusals.specs.Refusals.{Test, First, Answer, shuffle-tests, block-tests}
+use Rattle.refusals.specs.Refusals.{First, Answer, shuffle-tests, block-tests}
 use Rattle.refusals.proofs.Tests.{splits, none-before}
 use Rattle.refusals.proofs.Answers.{answer-one-when}
 use Rattle.refusals.proofs.Acceptance.{accepted-if}

@@ -3,9 +3,8 @@ use refusals::DONE;
 use triples::Triple;
 ghost use mathlib.Core.Path.{_≡_};
 ghost use mathlib.Core.Bool.{true};
-ghost use mathlib.Core.List.{_++_};
 ghost use Prim.Native.Nat.{_+_, _%_, _<_};
-ghost use Rattle.triples.specs.Shuffles.{triple, quadratic};
+ghost use Rattle.triples.specs.Shuffles.{triple};
 ghost use Rattle.refusals.specs.Refusals.{First};
 ghost use Rattle.qpp.specs.Walkers.{nowhere, step-tests, Started, Stepped};
 

@@ -8,8 +8,8 @@ use native.Mathlib.Omega.{arith}
 use Rattle.permuting.specs.Formulas.{Formula, Permutes}
 use Rattle.triples.specs.declared.Triple.{Triple}
 use Rattle.triples.specs.Shuffles.{quadratic, InRange, Shuffle}
-use Rattle.refusals.specs.Refusals.{Test, Reaches, First, no-shuffle, no-position, range-tests, shuffle-tests, Acceptance}
-use Rattle.refusals.proofs.Tests.{None, none, none-before, none-first, splits, first-one}
+use Rattle.refusals.specs.Refusals.{Test, Reaches, First, range-tests, shuffle-tests, Acceptance}
+use Rattle.refusals.proofs.Tests.{None, none, none-before, none-first, first-one}
 
 -- ---- a formula of any kind
 

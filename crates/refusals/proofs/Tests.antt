@@ -4,7 +4,6 @@ use mathlib.Core.Logic.{_≢_, inl, inr}
 use mathlib.Core.Bool.{Bool, true, false, cond}
 use mathlib.Core.List.{List, [], _∷_, _++_}
 use Prim.Native.Nat.{ℕ}
-use native.Mathlib.Omega.{arith}
 use lib.Dec.{T, eqb, eqb→eq}
 use borrow.Author.Tests.{eq-eqb}
 use Rattle.refusals.specs.Refusals.{Test, First}

@@ -1,5 +1,4 @@
 -- To be believed: what a triple means, in the words of the scope.
-use mathlib.Core.Path.{_≡_}
 use mathlib.Core.Bool.{cond}
 use Prim.Native.Nat.{ℕ, _+_, _*_, _/_, _%_, _≤_, _<_}
 use mathlib.Core.List.{[], _∷_}

@@ -17,7 +17,7 @@ series-requires : tie.Need-series-requires
 series-requires c κs =
     let made = c .before .before in
     let r = odd-unit (made .before .pre) (made .odd-form .ensures) .range in
-    (r .high, r .second, c .before .reciprocal .ensures .below, zeros 14, refl)
+    record { few = r .high; second = r .second; reciprocal = c .before .reciprocal .ensures .below; zeros = zeros 14; places = refl }
 
 reduce-requires : tie.Need-reduce-requires
 reduce-requires c κs =

@@ -1,5 +1,5 @@
 -- In the odd form f1 is a unit; its length is that of the triple.
-use mathlib.Core.Path.{subst₂, ap, _∙_}
+use mathlib.Core.Path.{subst₂, ap}
 use Prim.Native.Nat.{ℕ}
 use borrow.Author.Needs.{needs}
 use Rattle.numbers.specs.Reciprocals.{Reciprocal}

@@ -5,8 +5,7 @@ use mathlib.Core.List.{_∷_}
 use Rattle.cards.specs.Texts.{space}
 use Rattle.cards.specs.Fronts.{Front}
 use native.Mathlib.Omega.{arith}
-use Rattle.cards.proofs.Grammar.{spaced-none, spaced-found, begins, begins-front, begins-rest, number-front, front-number}
-use Rattle.cards.proofs.Grammar.{readable-as, unreadable-as}
+use Rattle.cards.proofs.Grammar.{spaced-none, spaced-found, begins, begins-front, begins-rest, number-front, front-number, readable-as, unreadable-as}
 use borrow.Author.Needs.{needs}
 use Rattle.cards.proofs.reading.read.Statement.{statement}
 use Rattle.cards.proofs.reading.read.Tie as tie

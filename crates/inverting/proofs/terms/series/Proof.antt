@@ -16,7 +16,7 @@ abbrev μ-loop : tie.MeasureT-loop
 loop-holds : tie.Need-loop-holds Inv-loop μ-loop
 loop-holds c =
     let start = c .before .before .before in
-    (omega arith, grown-start _ _ _ _ (omega arith) (start .pre .4) (start .pre .3))
+    (omega arith, grown-start _ _ _ _ (omega arith) (start .pre .places) (start .pre .zeros))
 
 returns : tie.Need-returns Inv-loop μ-loop
 returns c =

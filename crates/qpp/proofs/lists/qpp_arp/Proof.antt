@@ -1,10 +1,9 @@
 -- Refused by the triple or by the length of the list, of which Q entries are needed; otherwise what `shifts` wrote, with P and Q.
-use mathlib.Core.Path.{refl}
 use native.Mathlib.Omega.{arith}
 use borrow.Author.Needs.{needs}
 use Rattle.triples.specs.declared.Triple.{Triple}
 use Prim.Native.Nat.{ℕ}
-use mathlib.Core.Path.{_≡_}
+use mathlib.Core.Path.{_≡_, refl}
 use mathlib.Core.List.{[], _∷_}
 use Rattle.triples.specs.Shuffles.{oddForm}
 use Rattle.arp.specs.Arp.{Period, ArpNumbers}

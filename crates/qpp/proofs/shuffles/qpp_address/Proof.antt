@@ -1,5 +1,4 @@
 -- Refused by the triple or by the position; otherwise the place is f of it.
-use mathlib.Core.Path.{refl}
 use native.Mathlib.Omega.{arith}
 use borrow.Author.Needs.{needs}
 use Rattle.refusals.proofs.Answers.{refuse-early, refuse-late, answer-late}

@@ -1,7 +1,6 @@
 -- Refused as `standing` says; otherwise the place is f at the position, and `after` gives the next.
 use mathlib.Core.Path.{refl, sym, subst, ap, _∙_}
 use mathlib.Core.Bool.{true≢false}
-use mathlib.Core.List.{_++_}
 use Prim.Native.Nat.{ℕ, _<_}
 use borrow.Author.Tests.{not-true, not-false}
 use borrow.Author.Needs.{needs}
