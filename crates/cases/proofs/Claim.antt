@@ -7,6 +7,7 @@ use native.Mathlib.Nat.{dvd-refl}
 use native.Mathlib.Omega.{arith}
 use lib.Dec.{T, eqb}
 use lib.ListN.{length, getD, replicate, length-append}
+use Rattle.numbers.proofs.Computation.{every, same-below}
 use Rattle.permuting.specs.Blocks.{Direction, interleave, deinterleave, marks-of, MovedBlock}
 use Rattle.permuting.proofs.Scratch.{cleared-front}
 use Rattle.polynomials.proofs.Instances.{inverse-test, inverted-by-test}
@@ -21,9 +22,9 @@ use Rattle.refusals.proofs.Answers.{answer-late}
 use Rattle.refusals.proofs.Acceptance.{accepted}
 use Rattle.qpp.specs.Promises.{Moves, ArpOf, InverseOf}
 use Rattle.cases.specs.Cases.{All, cases, letters}
-use Rattle.cases.proofs.Trials.{every, judge, judged-as, same-below}
+use Rattle.cases.proofs.Trials.{judge, judged-as}
 
-listed : (t : Triple) (list : List ℕ) → length list ≡ t .k → T (every (λ x. eqb (getD list x 0) (f t x)) (t .k))
+listed : (t : Triple) (list : List ℕ) → length list ≡ t .k → T (every (t .k) (λ x. eqb (getD list x 0) (f t x)))
     → (length list ≡ t .k) × ((x : ℕ) → x < t .k → getD list x 0 ≡ f t x)
 listed t list size e = (size, same-below (t .k) (λ x. getD list x 0) (f t) e)
 
@@ -36,7 +37,7 @@ module _ (t : Triple) (judged : T (eqb (judge t) 0)) (before after : List ℕ) (
   moved w marks rest enough done =
       answer-late tt (judged-as t 0 judged) refl (inr ((λ ne. ne fits), inr ((λ short. omega (arith, simp length-append at short)), refl))) refl done
 
-  interleaved : T (every (λ i. eqb (getD after i 0) (getD before (f t i) 0)) (length before)) → (marks rest : List ℕ) → length marks ≡ marks-of (t .k)
+  interleaved : T (every (length before) (λ i. eqb (getD after i 0) (getD before (f t i) 0))) → (marks rest : List ℕ) → length marks ≡ marks-of (t .k)
       → Moves interleave (quadratic t) 0 before (marks ++ rest) 0 after (replicate (marks-of (t .k)) 0 ++ rest)
   interleaved e marks rest enough =
       moved interleave marks rest enough (record {
@@ -44,7 +45,7 @@ module _ (t : Triple) (judged : T (eqb (judge t) 0)) (before after : List ℕ) (
         scratch = cleared-front marks rest enough;
       })
 
-  deinterleaved : T (every (λ i. eqb (getD after (f t i) 0) (getD before i 0)) (length before)) → (marks rest : List ℕ) → length marks ≡ marks-of (t .k)
+  deinterleaved : T (every (length before) (λ i. eqb (getD after (f t i) 0) (getD before i 0))) → (marks rest : List ℕ) → length marks ≡ marks-of (t .k)
       → Moves deinterleave (quadratic t) 0 before (marks ++ rest) 0 after (replicate (marks-of (t .k)) 0 ++ rest)
   deinterleaved e marks rest enough =
       moved deinterleave marks rest enough (record {

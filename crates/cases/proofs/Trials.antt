@@ -1,42 +1,19 @@
 -- Small numbers tried one by one, so that a case is a computation.
-use mathlib.Core.Path.{_≡_, refl, sym, ap, subst, _∙_}
+use mathlib.Core.Path.{_≡_, refl, sym, subst}
 use mathlib.Core.Logic.{_≢_, inl, inr, ⊎-elim}
 use mathlib.Core.Bool.{Bool, true, false, cond}
 use mathlib.Core.List.{[], _∷_}
-use Prim.Native.Nat.{ℕ, zero, suc, _≤_, _<_}
-use native.Mathlib.Decide.{ℕ-discrete}
+use Prim.Native.Nat.{ℕ, _≤_}
 use native.Mathlib.Omega.{arith}
 use lib.Dec.{T, eqb, leb, ltb, eqb→eq}
 use borrow.Author.Tests.{eq-eqb, eqb-true, eqb-false, leb-true, leb-false, ltb-true, ltb-false}
+use Rattle.numbers.proofs.Computation.{every, passes, some-fails}
 use Rattle.triples.specs.declared.Triple.{Triple}
 use Rattle.permuting.specs.Formulas.{Permutes}
 use Rattle.triples.specs.Shuffles.{f, quadratic, InRange}
 use Rattle.refusals.specs.Refusals.{Acceptance, range-tests, shuffle-tests, no-length, no-shuffle}
-use Rattle.refusals.proofs.Tests.{passes, none-first}
+use Rattle.refusals.proofs.Tests as tests
 use Rattle.refusals.proofs.Acceptance.{none-ranged, none-shuffle}
-
--- does the test pass at every number below n?
-abbrev pub every : (ℕ → Bool) → ℕ → Bool
-every p zero = true
-every p (suc n) = cond (p n) (every p n) false
-
-pub every-below : (p : ℕ → Bool) (n : ℕ) → every p n ≡ true → (x : ℕ) → x < n → p x ≡ true
-every-below p zero e x l = absurd (omega arith)
-every-below p (suc n) e x l = go (p n) refl e (every-below p n) (ℕ-discrete x n)
-  where
-    go : (b : Bool) → p n ≡ b → cond b (every p n) false ≡ true → (every p n ≡ true → (x : ℕ) → x < n → p x ≡ true) → Dec (x ≡ n) → p x ≡ true
-    go true w e ih (yes s) = ap p s ∙ w
-    go true w e ih (no s) = ih e x (omega arith)
-    go false w e ih d = cc
-
--- a number below n where it fails
-pub some-below : (p : ℕ → Bool) (n : ℕ) → every p n ≡ false → (x : ℕ) × (x < n) × (p x ≡ false)
-some-below p zero e = let z : _≡_ {A = ℕ} 0 1 = cc in absurd (omega arith)
-some-below p (suc n) e = go (p n) refl e (some-below p n)
-  where
-    go : (b : Bool) → p n ≡ b → cond b (every p n) false ≡ false → (every p n ≡ false → (x : ℕ) × (x < n) × (p x ≡ false)) → (x : ℕ) × (x < suc n) × (p x ≡ false)
-    go true w e ih = let r = ih e in (r .0, omega (arith, r .1), r .2)
-    go false w e ih = (n, omega arith, w)
 
 -- ---- does f permute?
 
@@ -45,10 +22,10 @@ abbrev apart : Triple → ℕ → ℕ → Bool
 apart t x y = cond (eqb (f t x) (f t y)) (eqb x y) true
 
 abbrev tried : Triple → Bool
-tried t = every (λ x. every (apart t x) (t .k)) (t .k)
+tried t = every (t .k) (λ x. every (t .k) (apart t x))
 
-apart-true : (t : Triple) (x y : ℕ) → apart t x y ≡ true → f t x ≡ f t y → x ≡ y
-apart-true t x y e s = eqb-true x y (sym (ap (λ (b : Bool). cond b (eqb x y) true) (eq-eqb (f t x) (f t y) s)) ∙ e)
+apart-true : (t : Triple) (x y : ℕ) → T (apart t x y) → f t x ≡ f t y → x ≡ y
+apart-true t x y e s = eqb→eq x y (subst (λ (b : Bool). T (cond b (eqb x y) true)) (eq-eqb (f t x) (f t y) s) e)
 
 apart-false : (t : Triple) (x y : ℕ) → apart t x y ≡ false → (f t x ≡ f t y) × (x ≢ y)
 apart-false t x y e = go (eqb (f t x) (f t y)) refl e
@@ -59,12 +36,12 @@ apart-false t x y e = go (eqb (f t x) (f t y)) refl e
 
 tried-true : (t : Triple) → tried t ≡ true → Permutes (quadratic t)
 tried-true t e x y lx ly s =
-    apart-true t x y (every-below (apart t x) (t .k) (every-below (λ x. every (apart t x) (t .k)) (t .k) e x lx) y ly) s
+    apart-true t x y (passes (t .k) (apart t x) (passes (t .k) (λ x. every (t .k) (apart t x)) (subst T (sym e) tt) x lx) y ly) s
 
 tried-false : (t : Triple) → tried t ≡ false → ¬ Permutes (quadratic t)
 tried-false t e permutes =
-    let (x, lx, p) = some-below (λ x. every (apart t x) (t .k)) (t .k) e in
-    let (y, ly, q) = some-below (apart t x) (t .k) p in
+    let (x, lx, p) = some-fails (t .k) (λ x. every (t .k) (apart t x)) e in
+    let (y, ly, q) = some-fails (t .k) (apart t x) p in
     let (s, ne) = apart-false t x y q in
     ne (permutes x y lx ly s)
 
@@ -90,17 +67,8 @@ judge-first t =
     picked P (leb (t .k) (t .f1)) (λ e. inr (length-right, inl (refl, inl (leb-true _ _ e)))) λ e₃.
     picked P (leb (t .k) (t .f2)) (λ e. inr (length-right, inl (refl, inr (inl (leb-true _ _ e))))) λ e₄.
     let range : InRange t = record { low = low; high = high; first = leb-false _ _ e₃; second = leb-false _ _ e₄ } in
-    picked P (tried t) (λ e. none-first (shuffle-tests φ) (none-shuffle (record { range = range; permutes = tried-true t e })) refl)
-    (λ e. passes (range-tests φ) (no-shuffle φ ∷ []) 3 (none-ranged range) (inl (refl, tried-false t e)))
+    picked P (tried t) (λ e. tests.none-first (shuffle-tests φ) (none-shuffle (record { range = range; permutes = tried-true t e })) refl)
+    (λ e. tests.passes (range-tests φ) (no-shuffle φ ∷ []) 3 (none-ranged range) (inl (refl, tried-false t e)))
 
 pub judged-as : (t : Triple) (n : ℕ) → T (eqb (judge t) n) → Acceptance (quadratic t) n
 judged-as t n e = subst (λ (m : ℕ). Acceptance (quadratic t) m) (eqb→eq (judge t) n e) (judge-first t)
-
--- ---- two rules at the numbers below n
-
-T-true : (b : Bool) → T b → b ≡ true
-T-true true _ = refl
-T-true false e = absurd e
-
-pub same-below : (n : ℕ) (u v : ℕ → ℕ) → T (every (λ i. eqb (u i) (v i)) n) → (i : ℕ) → i < n → u i ≡ v i
-same-below n u v e i l = eqb-true _ _ (every-below (λ i. eqb (u i) (v i)) n (T-true _ e) i l)

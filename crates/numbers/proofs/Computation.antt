@@ -1,10 +1,10 @@
 -- A question of each number below n, as one test that is computed.
-use mathlib.Core.Path.{_≡_, sym, subst}
+use mathlib.Core.Path.{_≡_, refl, sym, subst}
 use mathlib.Core.Bool.{Bool, true, false, _&&_}
 use Prim.Native.Nat.{ℕ, zero, suc, _<_}
 use native.Mathlib.Decide.{ℕ-discrete}
 use native.Mathlib.Omega.{arith}
-use lib.Dec.{T}
+use lib.Dec.{T, eqb, eqb→eq}
 
 pub both-parts : (a b : Bool) → T (a && b) → T a × T b
 both-parts true b t = (tt, t)
@@ -23,3 +23,17 @@ passes (suc n) test t i l =
     go : T (test n) → (i < n → T (test i)) → Dec (i ≡ n) → T (test i)
     go here before (yes e) = subst (λ (k : ℕ). T (test k)) (sym e) here
     go here before (no e) = before (omega arith)
+
+-- where not every number below n passes, one fails
+pub some-fails : (n : ℕ) (test : ℕ → Bool) → every n test ≡ false → (i : ℕ) × (i < n) × (test i ≡ false)
+some-fails zero test e = let z : _≡_ {A = ℕ} 0 1 = cc in absurd (omega arith)
+some-fails (suc n) test e = go (test n) refl e (some-fails n test)
+  where
+    go : (b : Bool) → test n ≡ b → (b && every n test) ≡ false → (every n test ≡ false → (i : ℕ) × (i < n) × (test i ≡ false))
+        → (i : ℕ) × (i < suc n) × (test i ≡ false)
+    go true w e before = let r = before e in (r .0, omega (arith, r .1), r .2)
+    go false w e before = (n, omega arith, w)
+
+-- two rules that are the same at each number below n
+pub same-below : (n : ℕ) (u v : ℕ → ℕ) → T (every n (λ i. eqb (u i) (v i))) → (i : ℕ) → i < n → u i ≡ v i
+same-below n u v e i l = eqb→eq (u i) (v i) (passes n (λ i. eqb (u i) (v i)) e i l)
