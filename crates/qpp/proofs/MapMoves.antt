@@ -13,7 +13,8 @@ use Rattle.triples.specs.Shuffles.{f, quadratic, Shuffle}
 use Rattle.maps.specs.declared.Map.{Map}
 use Rattle.maps.specs.Maps.{to, MapOf}
 use Rattle.moving.specs.Readiness.{Ready}
-use Rattle.refusals.specs.Refusals.{Test, Leads, shuffle-tests, block-tests}
+use Rattle.refusals.specs.Refusals.{Test, shuffle-tests, block-tests}
+use Rattle.refusals.specs.Leads.{Leads}
 use Rattle.refusals.proofs.Tests.{splits}
 use Rattle.refusals.proofs.Answers.{answering}
 use Rattle.refusals.proofs.Acceptance.{accepted-then}

@@ -6,7 +6,8 @@ use triples::Triple;
 ghost use lib.IntN.{pos};
 ghost use Rattle.permuting.specs.Blocks.{marks-of, interleave, deinterleave};
 ghost use Rattle.triples.specs.Shuffles.{triple, quadratic};
-ghost use Rattle.refusals.specs.Refusals.{Leads, shuffle-tests, block-tests};
+ghost use Rattle.refusals.specs.Refusals.{shuffle-tests, block-tests};
+ghost use Rattle.refusals.specs.Leads.{Leads};
 ghost use Rattle.qpp.specs.Promises.{Moves};
 
 // May a block and a scratch of these lengths be moved by the triple?

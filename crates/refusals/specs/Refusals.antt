@@ -58,10 +58,6 @@ block-tests k bytes block scratch = no-block k block ∷ no-scratch bytes scratc
 abbrev pub Acceptance : Formula → ℕ → Type 0
 Acceptance φ number = First (shuffle-tests φ) number
 
--- The number that tests on numbers and then on what was lent lead to.
-pub record Leads (tests own : List Test) (number : ℕ) : Type 0 where
-  pub first : First (tests ++ own) number
-
 -- A call tests its numbers and then what it was lent or asked for, and answers or refuses by a number of the table: 0 with what was asked
 -- for, or another number and nothing beside it.
 pub record Answer (tests own : List Test) (number : ℕ) (Done Nothing : Type 0) : Type 0 where
