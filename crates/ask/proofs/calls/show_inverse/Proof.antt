@@ -1,0 +1,32 @@
+-- `show_inverse`'s loop: the place is one of the thirteen or past them, and the buffer keeps its length. The places left fall,
+-- so it ends.
+use mathlib.Core.Path.{_≡_}
+use Prim.Native.Nat.{_-_, _≤_}
+use lib.ListN.{length}
+use borrow.Author.Needs.{needs}
+use Rattle.ask.proofs.calls.show_inverse.Statement.{statement}
+use Rattle.ask.proofs.calls.show_inverse.Tie as tie
+
+abbrev Inv-loop : tie.InvT-loop
+Inv-loop out₀ after₀ a i₀ out after i = (i ≤ 13) × (length out ≡ length out₀)
+
+abbrev μ-loop : tie.MeasureT-loop
+μ-loop out₀ after₀ a i₀ out after i = 13 - i
+
+pub show-inverse-spec : {M : Type 1} → statement M
+show-inverse-spec =
+    tie.close
+    (tie.spec
+    Inv-loop
+    μ-loop
+    (λ c κs. search needs)
+    (λ c κs. search needs)
+    (λ c. search needs)
+    (λ c. search needs)
+    (λ c. search needs)
+    (λ c κs. search needs)
+    (λ c. search needs)
+    (λ c. search needs)
+    (λ c. search needs)
+    (λ c. search needs)
+    (λ c. search needs))

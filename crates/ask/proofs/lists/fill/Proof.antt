@@ -1,0 +1,38 @@
+-- `fill`'s loop: the next entry begins inside the word or at its end, and the entries so far fit the longest list. An entry
+-- ends no earlier than it begins and the next begins past its comma, so the bytes left fall, and it ends.
+use Prim.Native.Nat.{_-_, _≤_}
+use lib.ListN.{length}
+use borrow.Author.Needs.{needs}
+use Rattle.ask.proofs.lists.fill.Statement.{statement}
+use Rattle.ask.proofs.lists.fill.Tie as tie
+
+abbrev Inv-loop : tie.InvT-loop
+Inv-loop word kind bytes₀ entries₀ symbols₀ size₀ at₀ bytes entries symbols size at = (at ≤ length word) × (size ≤ 8200)
+
+abbrev μ-loop : tie.MeasureT-loop
+μ-loop word kind bytes₀ entries₀ symbols₀ size₀ at₀ bytes entries symbols size at = length word - at
+
+pub fill-spec : {M : Type 1} → statement M
+fill-spec =
+    tie.close
+    (tie.spec
+    Inv-loop
+    μ-loop
+    (λ c. search needs)
+    (λ c κs. search needs)
+    (λ c. search needs)
+    (λ c. search needs)
+    (λ c. search needs)
+    (λ c κs. search needs)
+    (λ c κs. search needs)
+    (λ c κs. search needs)
+    (λ c. search needs)
+    (λ c. search needs)
+    (λ c κs. search needs)
+    (λ c. search needs)
+    (λ c κs. search needs)
+    (λ c. search needs)
+    (λ c. search needs)
+    (λ c. search needs)
+    (λ c. search needs)
+    (λ c. search needs))
