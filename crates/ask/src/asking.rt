@@ -1,201 +1,180 @@
 // What a line asks, and the answer to it.
+use crate::calls;
 use crate::calls::Call;
-use crate::calls::Numbers;
-use crate::calls::find_call;
-use crate::calls::make_call;
-use crate::calls::scratch_kind;
-use crate::lists::LONGEST;
+use crate::lists::BYTES;
+use crate::lists::Bytes;
+use crate::lists::ENTRIES;
+use crate::lists::Entries;
+use crate::lists::SYMBOLS;
+use crate::lists::Symbols;
 use crate::lists::show;
 use crate::lists::take_list;
-use crate::words::Fault;
-use crate::words::Number;
+use crate::words;
 use crate::words::Reader;
-use crate::words::advance;
-use crate::words::begin;
 use crate::words::failed;
-use crate::words::is_fine;
 use crate::words::take_number;
-use crate::writing::Pen;
 use crate::writing::number;
 use crate::writing::text;
+use qpp::Walker;
 ghost use mathlib.Core.Path.{_≡_};
 ghost use Prim.Native.Nat.{_≤_};
 ghost use lib.ListN.{length};
 
-// A call with its numbers, and what its list and its scratch hold and how long they are. A scratch that came as a text is
-// shown in numbers, since a call leaves zeros there.
-struct Question {
-    row: u32,
-    n: Numbers,
-    kind: u8,
-    size: usize,
-    scratch_kind: u8,
-    marks: usize,
-    reader: Reader,
-}
-
-// The first word must be there, and name a call.
+// The first word, as far as it is read, and the call that it names.
 fn named(r: Reader, call: Call) -> Reader
     ensures { λ s. ⌜ s .end ≡ r .end ⌝ }
 {
-    if r.from == r.end {
-        return failed(r, Fault::Empty);
-    }
     if call.row == 0 {
-        return failed(r, Fault::NoCall);
+        return failed(r, words::NO_CALL);
     }
     r
 }
 
-fn take_position(line: &[u8], r: Reader, asked: bool) -> Number
+fn take_position(line: &[u8], r: Reader, kind: u8) -> Reader
     requires { ⌜ r .end ≤ length (now line) ⌝ }
-    ensures { λ s. ⌜ s .reader .end ≤ length (now (line .entry)) ⌝ }
+    ensures { λ s. ⌜ s .end ≤ length (now (line .entry)) ⌝ }
 {
-    if asked {
+    if kind == b'4' {
         return take_number(line, r);
     }
-    Number { n: 0, reader: r }
+    r
+}
+
+// A block comes with a scratch, which is a list of bytes.
+fn scratch_kind(kind: u8) -> u8 {
+    match kind {
+        BYTES | SYMBOLS => BYTES,
+        _ => b'3',
+    }
 }
 
 // No word may be left.
 fn ended(line: &[u8], r: Reader) -> Reader
-    requires { ⌜ r .end ≤ length (now line) ⌝ }
+    requires { ⌜ (r .end ≤ length (now line)) × (r .n ≤ 8200) ⌝ }
+    ensures { λ s. ⌜ s .n ≤ 8200 ⌝ }
 {
-    let rest = advance(line, r);
+    let rest = words::advance(line, r);
     if rest.from < rest.end {
-        return failed(rest, Fault::ManyWords);
+        return failed(rest, words::MANY_WORDS);
     }
     r
 }
 
+// A call, its numbers, its list, and its scratch as the last word.
+struct Question {
+    call: Call,
+    w: Walker,
+    list: Reader,
+    last: Reader,
+}
+
 fn read_question(
     line: &[u8],
-    bytes: &mut [u8; LONGEST],
-    entries: &mut [u16; LONGEST],
-    symbols: &mut [i16; LONGEST],
-    scratch: &mut [u8; LONGEST],
+    b: &mut Bytes,
+    e: &mut Entries,
+    s: &mut Symbols,
+    scratch: &mut Bytes,
 ) -> Question
-    ensures { λ q. ⌜ (q .size ≤ 8200) × (q .marks ≤ 8200) ⌝ }
+    ensures { λ q. ⌜ (q .list .n ≤ 8200) × (q .last .n ≤ 8200) ⌝ }
 {
-    let first = advance(line, begin());
+    let first = words::next(line, words::begin());
     let from = first.from;
     let end = first.end;
-    let call = find_call(&line[from..end]);
+    let call = calls::find_call(&line[from..end]);
     let k = take_number(line, named(first, call));
-    let f1 = take_number(line, k.reader);
-    let f2 = take_number(line, f1.reader);
-    let x = take_position(line, f2.reader, call.four);
-    let list = take_list(line, x.reader, call.kind, bytes, entries, symbols);
-    let scratch_kind = scratch_kind(call.kind);
-    let scratched = take_list(line, list.reader, scratch_kind, scratch, entries, symbols);
+    let f1 = take_number(line, k);
+    let f2 = take_number(line, f1);
+    let x = take_position(line, f2, call.kind);
+    let list = take_list(line, x, call.kind, b, e, s);
+    let marks = take_list(line, list, scratch_kind(call.kind), scratch, e, s);
     Question {
-        row: call.row,
-        n: Numbers {
+        call,
+        w: Walker {
             k: k.n,
             f1: f1.n,
             f2: f2.n,
-            x: x.n,
+            at: x.n,
         },
-        kind: list.kind,
-        size: list.size,
-        scratch_kind,
-        marks: scratched.size,
-        reader: ended(line, scratched.reader),
+        list,
+        last: ended(line, marks),
     }
 }
 
-fn complain_of_word(out: &mut [u8], pen: Pen, word: u8, fault: Fault) -> Pen {
-    let begun = text(out, pen, b"? word ");
-    let numbered = number(out, begun, word as u32);
-    match fault {
-        Fault::NoNumber => text(out, numbered, b" is no number"),
-        Fault::LargeNumber => text(out, numbered, b" is a number above 4294967295"),
-        Fault::NoList => text(out, numbered, b" is no list"),
-        Fault::OutOfRange => text(out, numbered, b" has an entry that its width cannot hold"),
-        _ => text(out, numbered, b" is a list of more than 8200 entries"),
-    }
-}
-
-fn complain(out: &mut [u8], pen: Pen, r: Reader) -> Pen {
+fn complain(out: &mut [u8], at: usize, r: Reader) -> usize {
+    let begun = text(out, at, b"? word ");
+    let end = number(out, begun, r.word as u32);
     let fault = r.fault;
     match fault {
-        Fault::Empty => text(out, pen, b"? the line is empty"),
-        Fault::NoCall => text(out, pen, b"? no such call"),
-        Fault::FewWords => text(out, pen, b"? too few words"),
-        Fault::ManyWords => text(out, pen, b"? too many words"),
-        _ => complain_of_word(out, pen, r.word, fault),
+        words::NO_CALL => text(out, end, b": no such call"),
+        words::NO_NUMBER => text(out, end, b": no number"),
+        words::LARGE_NUMBER => text(out, end, b": a number above 4294967295"),
+        words::NO_LIST => text(out, end, b": no list"),
+        words::OUT_OF_RANGE => text(out, end, b": an entry out of range"),
+        words::LONG_LIST => text(out, end, b": a list of more than 8200 entries"),
+        words::FEW_WORDS => text(out, end, b": too few words"),
+        _ => text(out, end, b": too many words"),
     }
 }
 
-// Makes the call on the fronts of the buffers, as long as the lists are.
+// Makes the call on the fronts of the buffers, which are as long as the lists.
 fn ask(
     q: Question,
-    bytes: &mut [u8],
-    entries: &mut [u16],
-    symbols: &mut [i16],
+    b: &mut [u8],
+    e: &mut [u16],
+    s: &mut [i16],
     scratch: &mut [u8],
     out: &mut [u8],
-    pen: Pen,
-) -> Pen
-    requires { ⌜ (q .size ≤ length (now bytes)) × (q .size ≤ length (now entries)) × (q .size ≤ length (now symbols)) × (q .marks ≤ length (now scratch)) ⌝ }
+    at: usize,
+) -> usize
+    requires { ⌜ (q .list .n ≤ length (now b)) × (q .list .n ≤ length (now e)) × (q .list .n ≤ length (now s)) × (q .last .n ≤ length (now scratch)) ⌝ }
 {
-    let size = q.size;
-    let marks = q.marks;
-    make_call(
-        q.row,
-        q.n,
-        &mut bytes[0..size],
-        &mut entries[0..size],
-        &mut symbols[0..size],
+    let size = q.list.n as usize;
+    let marks = q.last.n as usize;
+    calls::make_call(
+        q.call.row,
+        q.w,
+        &mut b[0..size],
+        &mut e[0..size],
+        &mut s[0..size],
         &mut scratch[0..marks],
         out,
-        pen,
+        at,
     )
 }
 
 fn reply(
     q: Question,
-    bytes: &mut [u8; LONGEST],
-    entries: &mut [u16; LONGEST],
-    symbols: &mut [i16; LONGEST],
-    scratch: &mut [u8; LONGEST],
+    b: &mut Bytes,
+    e: &mut Entries,
+    s: &mut Symbols,
+    scratch: &mut Bytes,
     out: &mut [u8],
-    pen: Pen,
-) -> Pen
-    requires { ⌜ (q .size ≤ 8200) × (q .marks ≤ 8200) ⌝ }
+    at: usize,
+) -> usize
+    requires { ⌜ (q .list .n ≤ 8200) × (q .last .n ≤ 8200) ⌝ }
 {
-    let asked = ask(q, bytes, entries, symbols, scratch, out, pen);
-    let listed = show(out, asked, q.kind, q.size, bytes, entries, symbols);
+    let asked = ask(q, b, e, s, scratch, out, at);
+    show(out, asked, q.list.kind, q.list.n as usize, b, e, s)
+}
+
+// Answers a line that comes without its newline.
+pub fn answer(line: &[u8], out: &mut [u8], at: usize) -> usize {
+    let mut b = [0; 8200];
+    let mut e = [0; 8200];
+    let mut s = [0; 8200];
+    let mut scratch = [0; 8200];
+    let q = read_question(line, &mut b, &mut e, &mut s, &mut scratch);
+    if q.last.fault != words::FINE {
+        return complain(out, at, q.last);
+    }
+    let listed = reply(q, &mut b, &mut e, &mut s, &mut scratch, out, at);
     show(
         out,
         listed,
-        q.scratch_kind,
-        q.marks,
-        scratch,
-        entries,
-        symbols,
-    )
-}
-
-// Answers a line that comes without its newline. Its lists are read into buffers of each width.
-pub fn answer(line: &[u8], out: &mut [u8], pen: Pen) -> Pen {
-    let mut bytes = [0; LONGEST];
-    let mut entries = [0; LONGEST];
-    let mut symbols = [0; LONGEST];
-    let mut scratch = [0; LONGEST];
-    let q = read_question(line, &mut bytes, &mut entries, &mut symbols, &mut scratch);
-    let reader = q.reader;
-    let fault = reader.fault;
-    if !is_fine(fault) {
-        return complain(out, pen, reader);
-    }
-    reply(
-        q,
-        &mut bytes,
-        &mut entries,
-        &mut symbols,
-        &mut scratch,
-        out,
-        pen,
+        scratch_kind(q.call.kind),
+        q.last.n as usize,
+        &scratch,
+        &e,
+        &s,
     )
 }

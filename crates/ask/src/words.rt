@@ -1,28 +1,37 @@
 // The words of a line, from left to right.
+use bytes::scan::find;
 ghost use mathlib.Core.Path.{_≡_};
 ghost use Prim.Native.Nat.{_≤_};
 ghost use lib.ListN.{length};
 
-// What is wrong with a line.
-pub enum Fault {
-    None,
-    Empty,
-    NoCall,
-    NoNumber,
-    LargeNumber,
-    NoList,
-    OutOfRange,
-    LongList,
-    FewWords,
-    ManyWords,
-}
+// What is wrong with a word.
+pub const FINE: u8 = 0;
 
-// Where the present word stands in its line, the how manieth it is, and what was wrong first.
+pub const NO_CALL: u8 = 1;
+
+pub const NO_NUMBER: u8 = 2;
+
+pub const LARGE_NUMBER: u8 = 3;
+
+pub const NO_LIST: u8 = 4;
+
+pub const OUT_OF_RANGE: u8 = 5;
+
+pub const LONG_LIST: u8 = 6;
+
+pub const FEW_WORDS: u8 = 7;
+
+pub const MANY_WORDS: u8 = 8;
+
+// Where the present word stands and the how manieth it is; what number it is, or how long a list and of what letter; and what
+// was wrong first.
 pub struct Reader {
     pub from: usize,
     pub end: usize,
     pub word: u8,
-    pub fault: Fault,
+    pub n: u32,
+    pub kind: u8,
+    pub fault: u8,
 }
 
 pub fn begin() -> Reader
@@ -32,26 +41,19 @@ pub fn begin() -> Reader
         from: 0,
         end: 0,
         word: 0,
-        fault: Fault::None,
+        n: 0,
+        kind: 0,
+        fault: FINE,
     }
 }
 
-pub fn is_fine(fault: Fault) -> bool {
-    if let Fault::None = fault { true } else { false }
-}
-
 // Notes a fault, unless there was one before.
-pub fn failed(r: Reader, fault: Fault) -> Reader
-    ensures { λ s. ⌜ (s .from ≡ r .from) × (s .end ≡ r .end) ⌝ }
+pub fn failed(mut r: Reader, fault: u8) -> Reader
+    ensures { λ s. ⌜ (s .from ≡ r .from) × (s .end ≡ r .end) × (s .n ≡ 0) ⌝ }
 {
-    let first = r.fault;
-    if is_fine(first) {
-        return Reader {
-            from: r.from,
-            end: r.end,
-            word: r.word,
-            fault,
-        };
+    r.n = 0;
+    if r.fault == FINE {
+        r.fault = fault;
     }
     r
 }
@@ -71,18 +73,15 @@ fn past_spaces(line: &[u8], from: usize) -> usize
 }
 
 // The next word, which is empty where the line has none. A line has few words, so their count never wraps.
-pub fn advance(line: &[u8], r: Reader) -> Reader
+pub fn advance(line: &[u8], mut r: Reader) -> Reader
     requires { ⌜ r .end ≤ length (now line) ⌝ }
     ensures { λ s. ⌜ (s .from ≤ s .end) × (s .end ≤ length (now (line .entry))) ⌝ }
 {
     let from = past_spaces(line, r.end);
-    let fault = r.fault;
-    Reader {
-        from,
-        end: bytes::scan::find(line, from, line.len(), b' '),
-        word: std::num::wrapping_add_u8(r.word, 1),
-        fault,
-    }
+    r.from = from;
+    r.end = find(line, from, line.len(), b' ');
+    r.word = std::num::wrapping_add_u8(r.word, (r.fault == FINE) as u8);
+    r
 }
 
 // The next word, which must be there.
@@ -92,77 +91,56 @@ pub fn next(line: &[u8], r: Reader) -> Reader
 {
     let found = advance(line, r);
     if found.from == found.end {
-        return failed(found, Fault::FewWords);
+        return failed(found, FEW_WORDS);
     }
     found
 }
 
-// A text of digits as a number, which once it is too large for 32 bits stays so.
-pub struct Digits {
-    pub only: bool,
-    pub value: u64,
-}
+const MOST: u64 = 4294967295;
 
-pub const MOST: u64 = 4294967295;
+// The value of a text that is not digits alone.
+pub const NONE: u64 = u64::MAX;
 
-fn is_digit(byte: u8) -> bool {
-    if byte < b'0' {
-        return false;
-    }
-    byte <= b'9'
-}
-
+// A number with a digit more. What is none stays none, and what is too large for 32 bits stays too large.
 fn longer(value: u64, digit: u8) -> u64 {
+    if digit < b'0' {
+        return NONE;
+    }
+    if digit > b'9' {
+        return NONE;
+    }
     if value > MOST {
         return value;
     }
     10 * value + (digit % 16) as u64
 }
 
-pub fn spelt(text: &[u8]) -> Digits {
-    let mut value = 0;
-    let mut i = 0;
-    while i < text.len() {
-        if !is_digit(text[i]) {
-            return Digits {
-                only: false,
-                value: 0,
-            };
-        }
-        value = longer(value, text[i]);
-        i += 1;
+pub fn value_of(text: &[u8]) -> u64 {
+    if text.len() == 0 {
+        return NONE;
     }
-    Digits { only: i > 0, value }
-}
-
-pub struct Number {
-    pub n: u32,
-    pub reader: Reader,
+    let mut value = 0;
+    for i in 0..text.len() {
+        value = longer(value, text[i]);
+    }
+    value
 }
 
 // The next word as a number.
-pub fn take_number(line: &[u8], r: Reader) -> Number
+pub fn take_number(line: &[u8], r: Reader) -> Reader
     requires { ⌜ r .end ≤ length (now line) ⌝ }
-    ensures { λ s. ⌜ s .reader .end ≤ length (now (line .entry)) ⌝ }
+    ensures { λ s. ⌜ s .end ≤ length (now (line .entry)) ⌝ }
 {
-    let reader = next(line, r);
-    let from = reader.from;
-    let end = reader.end;
-    let read = spelt(&line[from..end]);
-    if !read.only {
-        return Number {
-            n: 0,
-            reader: failed(reader, Fault::NoNumber),
-        };
+    let mut taken = next(line, r);
+    let from = taken.from;
+    let end = taken.end;
+    let value = value_of(&line[from..end]);
+    if value == NONE {
+        return failed(taken, NO_NUMBER);
     }
-    if read.value > MOST {
-        return Number {
-            n: 0,
-            reader: failed(reader, Fault::LargeNumber),
-        };
+    if value > MOST {
+        return failed(taken, LARGE_NUMBER);
     }
-    Number {
-        n: read.value as u32,
-        reader,
-    }
+    taken.n = value as u32;
+    taken
 }

@@ -1,66 +1,48 @@
-// Text into a lent buffer, which goes to standard output whenever it is full.
+// Text into a lent buffer, which goes to standard output whenever it is full. Each call is told the place where it writes,
+// and answers the next one. A place past the buffer's end says that a write failed; then nothing more is written.
 
-// How many bytes at the start of the buffer wait to be written, and whether every write so far succeeded.
-pub struct Pen {
-    pub end: usize,
-    pub going: bool,
-}
-
-// Empties the buffer. After a write that failed nothing more is written.
-pub fn flush(out: &[u8], pen: Pen) -> Pen {
-    let end = pen.end;
-    if pen.going {
-        if end <= out.len() {
-            return Pen {
-                end: 0,
-                going: io::write_all(libc::STDOUT_FILENO, &out[0..end]),
-            };
+// Empties the buffer.
+pub fn flush(out: &[u8], at: usize) -> usize {
+    if at <= out.len() {
+        if io::write_all(libc::STDOUT_FILENO, &out[0..at]) {
+            return 0;
         }
     }
-    Pen {
-        end: 0,
-        going: false,
-    }
+    usize::MAX
 }
 
-fn make_room(out: &[u8], pen: Pen) -> Pen {
-    if pen.end < out.len() {
-        return pen;
+fn make_room(out: &[u8], at: usize) -> usize {
+    if at == out.len() {
+        return flush(out, at);
     }
-    flush(out, pen)
+    at
 }
 
-pub fn byte(out: &mut [u8], pen: Pen, byte: u8) -> Pen {
-    let ready = make_room(out, pen);
-    let end = ready.end;
-    if end >= out.len() {
-        return ready;
+pub fn byte(out: &mut [u8], at: usize, byte: u8) -> usize {
+    let free = make_room(out, at);
+    if free >= out.len() {
+        return usize::MAX;
     }
-    out[end] = byte;
-    Pen {
-        end: end + 1,
-        going: ready.going,
-    }
+    out[free] = byte;
+    free + 1
 }
 
-pub fn text(out: &mut [u8], pen: Pen, text: &[u8]) -> Pen {
-    let mut after = pen;
-    let mut i = 0;
-    while i < text.len() {
-        after = byte(out, after, text[i]);
-        i += 1;
+pub fn text(out: &mut [u8], at: usize, text: &[u8]) -> usize {
+    let mut end = at;
+    for i in 0..text.len() {
+        end = byte(out, end, text[i]);
     }
-    after
+    end
 }
 
-pub fn number(out: &mut [u8], pen: Pen, n: u32) -> Pen {
+pub fn number(out: &mut [u8], at: usize, n: u32) -> usize {
     let mut digits = [0; 20];
     let count = io::decimal(n as u64, &mut digits);
-    text(out, pen, &digits[..count])
+    text(out, at, &digits[..count])
 }
 
 // A space and a number.
-pub fn field(out: &mut [u8], pen: Pen, n: u32) -> Pen {
-    let spaced = byte(out, pen, b' ');
+pub fn field(out: &mut [u8], at: usize, n: u32) -> usize {
+    let spaced = byte(out, at, b' ');
     number(out, spaced, n)
 }

@@ -6,10 +6,10 @@ use Rattle.ask.proofs.run.Statement.{statement}
 use Rattle.ask.proofs.run.Tie as tie
 
 abbrev Inv-loop : tie.InvT-loop
-Inv-loop piece₀ line₀ out₀ size₀ turns₀ piece line out size turns = (length piece ≡ length piece₀) × (length line ≡ length line₀) × (length out ≡ length out₀)
+Inv-loop piece₀ line₀ out₀ size₀ turns₀ t9 piece line out size turns = (length piece ≡ length piece₀) × (length line ≡ length line₀) × (length out ≡ length out₀)
 
 abbrev μ-loop : tie.MeasureT-loop
-μ-loop piece₀ line₀ out₀ size₀ turns₀ piece line out size turns = turns
+μ-loop piece₀ line₀ out₀ size₀ turns₀ t9 piece line out size turns = turns
 
 pub run-spec : {M : Type 1} → statement M
 run-spec =
@@ -19,19 +19,13 @@ run-spec =
     μ-loop
     (λ c. search needs)
     (λ c κs. search needs)
-    (λ c κs. search needs)
-    (λ c. search needs)
-    (λ c. search needs)
-    (λ c. search needs)
     (λ c. search needs)
     (λ c κs. search needs)
+    (λ c. search needs)
+    (λ c. search needs)
+    (λ c. search needs)
+    (λ c. search needs)
     (λ c κs. search needs)
-    (λ c. search needs)
-    (λ c. search needs)
-    (λ c. search needs)
-    (λ c. search needs)
-    (λ c. search needs)
-    (λ c. search needs)
     (λ c κs. search needs)
     (λ c. search needs)
     (λ c. search needs)
@@ -39,8 +33,15 @@ run-spec =
     (λ c. search needs)
     (λ c. search needs)
     (λ c. search needs)
-    (λ c. search needs)
     (λ c κs. search needs)
+    (λ c κs. search needs)
+    (λ c. search needs)
+    (λ c. search needs)
+    (λ c. search needs)
+    (λ c. search needs)
+    (λ c. search needs)
+    (λ c. search needs)
+    (λ c. search needs)
     (λ c. search needs)
     (λ c. search needs)
     (λ c. search needs)

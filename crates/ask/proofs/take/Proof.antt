@@ -8,10 +8,10 @@ use Rattle.ask.proofs.take.Statement.{statement}
 use Rattle.ask.proofs.take.Tie as tie
 
 abbrev Inv-loop : tie.InvT-loop
-Inv-loop piece line₀ unended out₀ size₀ pen₀ i₀ line out size pen i = (i ≤ length piece) × (length line ≡ length line₀) × (length out ≡ length out₀)
+Inv-loop piece line₀ unended out₀ size₀ end₀ i₀ i-end line out size end i = (i ≤ length piece) × (length line ≡ length line₀) × (length out ≡ length out₀)
 
 abbrev μ-loop : tie.MeasureT-loop
-μ-loop piece line₀ unended out₀ size₀ pen₀ i₀ line out size pen i = length piece - i
+μ-loop piece line₀ unended out₀ size₀ end₀ i₀ i-end line out size end i = length piece - i
 
 pub take-spec : {M : Type 1} → statement M
 take-spec =

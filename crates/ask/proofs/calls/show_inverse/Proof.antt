@@ -8,10 +8,10 @@ use Rattle.ask.proofs.calls.show_inverse.Statement.{statement}
 use Rattle.ask.proofs.calls.show_inverse.Tie as tie
 
 abbrev Inv-loop : tie.InvT-loop
-Inv-loop out₀ after₀ a i₀ out after i = (i ≤ 13) × (length out ≡ length out₀)
+Inv-loop out₀ at numbered end₀ a i₀ out end i = (i ≤ 13) × (length out ≡ length out₀)
 
 abbrev μ-loop : tie.MeasureT-loop
-μ-loop out₀ after₀ a i₀ out after i = 13 - i
+μ-loop out₀ at numbered end₀ a i₀ out end i = 13 - i
 
 pub show-inverse-spec : {M : Type 1} → statement M
 show-inverse-spec =

@@ -1,5 +1,7 @@
--- `fill`'s loop: the next entry begins inside the word or at its end, and the entries so far fit the longest list. An entry
--- ends no earlier than it begins and the next begins past its comma, so the bytes left fall, and it ends.
+-- `fill`'s loop: the next entry begins inside the word or at its end, the entries so far fit the longest list, and the reader
+-- stays at its word. An entry ends no earlier than it begins and the next begins past its comma, so the bytes left fall, and it
+-- ends.
+use mathlib.Core.Path.{_≡_}
 use Prim.Native.Nat.{_-_, _≤_}
 use lib.ListN.{length}
 use borrow.Author.Needs.{needs}
@@ -7,10 +9,10 @@ use Rattle.ask.proofs.lists.fill.Statement.{statement}
 use Rattle.ask.proofs.lists.fill.Tie as tie
 
 abbrev Inv-loop : tie.InvT-loop
-Inv-loop word kind bytes₀ entries₀ symbols₀ size₀ at₀ bytes entries symbols size at = (at ≤ length word) × (size ≤ 8200)
+Inv-loop word r₀ b₀ e₀ s₀ size₀ at₀ r b e s size at = (at ≤ length word) × (size ≤ 8200) × (r .end ≡ r₀ .end)
 
 abbrev μ-loop : tie.MeasureT-loop
-μ-loop word kind bytes₀ entries₀ symbols₀ size₀ at₀ bytes entries symbols size at = length word - at
+μ-loop word r₀ b₀ e₀ s₀ size₀ at₀ r b e s size at = length word - at
 
 pub fill-spec : {M : Type 1} → statement M
 fill-spec =
@@ -20,15 +22,24 @@ fill-spec =
     μ-loop
     (λ c. search needs)
     (λ c κs. search needs)
+    (λ c κs. search needs)
+    (λ c. search needs)
+    (λ c. search needs)
+    (λ c. search needs)
+    (λ c κs. search needs)
     (λ c. search needs)
     (λ c. search needs)
     (λ c. search needs)
     (λ c κs. search needs)
     (λ c κs. search needs)
+    (λ c. search needs)
+    (λ c κs. search needs)
+    (λ c. search needs)
     (λ c κs. search needs)
     (λ c. search needs)
     (λ c. search needs)
     (λ c κs. search needs)
+    (λ c. search needs)
     (λ c. search needs)
     (λ c κs. search needs)
     (λ c. search needs)

@@ -7,10 +7,10 @@ use Rattle.ask.proofs.writing.text.Statement.{statement}
 use Rattle.ask.proofs.writing.text.Tie as tie
 
 abbrev Inv-loop : tie.InvT-loop
-Inv-loop out₀ text after₀ i₀ out after i = (i ≤ length text) × (length out ≡ length out₀)
+Inv-loop out₀ at text end₀ i₀ i-end out end i = (i ≤ length text) × (length out ≡ length out₀)
 
 abbrev μ-loop : tie.MeasureT-loop
-μ-loop out₀ text after₀ i₀ out after i = length text - i
+μ-loop out₀ at text end₀ i₀ i-end out end i = length text - i
 
 pub text-spec : {M : Type 1} → statement M
 text-spec =

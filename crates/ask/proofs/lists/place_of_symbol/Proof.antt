@@ -1,4 +1,4 @@
--- `place_of`: a 16-bit symbol plus 32768 is a number from 0 to 65535 (`raised`), so it fits 32 bits with a sign and 16 without.
+-- `place_of_symbol`: a 16-bit symbol plus 32768 is a number from 0 to 65535 (`raised`), so it fits 32 bits with a sign and 16 without.
 use mathlib.Core.Path.{_≡_, refl, sym, ap, subst, _∙_}
 use Prim.Native.Nat.{ℕ, suc, _+_, _-_, _<_}
 use native.Mathlib.Omega.{arith}
@@ -10,8 +10,8 @@ use mir.Syntax.{w16, w32}
 use mir.Val.{Fits, SFits, toZ, ofZ}
 use mir.Facts.{toZ-ofZ, sfits-widen}
 use borrow.Author.Needs.{needs}
-use Rattle.ask.proofs.lists.place_of.Statement.{statement}
-use Rattle.ask.proofs.lists.place_of.Tie as tie
+use Rattle.ask.proofs.lists.place_of_symbol.Statement.{statement}
+use Rattle.ask.proofs.lists.place_of_symbol.Tie as tie
 
 record Raised (z : ℤ) : Type 0 where
   n : ℕ
@@ -38,5 +38,5 @@ cast-result-2 : tie.Need-cast-result-2
 cast-result-2 c =
     subst (λ (z : ℤ). T (nonNeg z) × Fits w16 (natAbs z)) (sym (toZ-ofZ (add-result c) ∙ sum c)) (tt, record { fits = place c .small })
 
-pub place-of-spec : {M : Type 1} → statement M
-place-of-spec = tie.close (tie.spec cast-result add-result cast-result-2 (λ c. search needs))
+pub place-of-symbol-spec : {M : Type 1} → statement M
+place-of-symbol-spec = tie.close (tie.spec cast-result add-result cast-result-2 (λ c. search needs))
