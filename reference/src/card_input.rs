@@ -1,6 +1,6 @@
 //! Input for a test of the card program.
 
-use crate::inverses::standard_rows;
+use crate::rows::standard_rows;
 use crate::shuffle::Triple;
 use std::io::{self, Write};
 

@@ -6,16 +6,14 @@
 // Remainders are written out as in the definitions.
 #![allow(clippy::manual_is_multiple_of)]
 
-mod blocks;
+mod ask;
+mod ask_input;
 mod card_input;
 mod cards;
-mod forms;
-mod inverses;
 mod inverting;
 mod line;
+mod rows;
 mod shuffle;
-mod triples;
-mod walks;
 
 #[cfg(test)]
 mod tests;
@@ -23,18 +21,17 @@ mod tests;
 use std::io::{self, BufWriter, Read, Write};
 use std::process::ExitCode;
 
+fn input() -> io::Result<Vec<u8>> {
+    let mut input = Vec::new();
+    io::stdin().lock().read_to_end(&mut input)?;
+    Ok(input)
+}
+
 fn run(what: &str, out: &mut impl Write) -> io::Result<bool> {
     match what {
-        "triples" => triples::write(out)?,
-        "inverses" => inverses::write(out)?,
-        "blocks" => blocks::write(out)?,
-        "walks" => walks::write(out)?,
-        "forms" => forms::write(out)?,
-        "cards" => {
-            let mut input = Vec::new();
-            io::stdin().lock().read_to_end(&mut input)?;
-            cards::write(&input, out)?;
-        }
+        "ask" => ask::write(&input()?, out)?,
+        "ask-input" => ask_input::write(out)?,
+        "cards" => cards::write(&input()?, out)?,
         "card-input" => card_input::write(out)?,
         _ => return Ok(false),
     }
@@ -48,7 +45,7 @@ fn main() -> ExitCode {
     match run(&what, &mut out) {
         Ok(true) => ExitCode::SUCCESS,
         Ok(false) => {
-            eprintln!("usage: reference triples|inverses|blocks|walks|forms|cards|card-input");
+            eprintln!("usage: reference ask|ask-input|cards|card-input");
             ExitCode::from(2)
         }
         Err(error) => {

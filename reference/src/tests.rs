@@ -1,8 +1,10 @@
 //! The scope's own cases, and the inverse against all polynomials where they can be listed.
 
 use crate::inverting::{coefficient_limit, evaluate, inverse};
+use crate::rows::standard_rows;
 use crate::shuffle::*;
-use crate::{card_input, cards, inverses};
+use crate::{ask, ask_input, card_input, cards};
+use std::collections::BTreeSet;
 
 fn t(k: u32, f1: u32, f2: u32) -> Triple {
     Triple::new(k, f1, f2)
@@ -137,7 +139,109 @@ fn card_input_is_as_meant() {
     for line in card_input::unreadable_lines() {
         assert_eq!(card_output(&[&line[..], b"\n"].concat()), "unreadable\n");
     }
-    assert_eq!(inverses::standard_rows().len(), 188);
+    assert_eq!(standard_rows().len(), 188);
+}
+
+fn answers(input: &[u8]) -> Vec<String> {
+    let mut out = Vec::new();
+    ask::write(input, &mut out).unwrap();
+    String::from_utf8_lossy(&out).lines().map(str::to_string).collect()
+}
+
+#[test]
+fn sample_answers() {
+    let cases = [
+        ("accept 40 3 10", "0"),
+        ("address 40 3 10 7", "0 31"),
+        ("reciprocal 40 3 10", "0 27"),
+        ("spread 40 3 10", "0 3"),
+        ("inverse 40 3 10", "0 2 27 10 0 0 0 0 0 0 0 0 0 0 0"),
+        ("arp 8 1 4 9*3", "0 1 2 0,4,9"),
+        ("addresses 4 1 2 65535*6", "0 0,3,2,1,65535,65535"),
+        ("addresses 4 1 2 -", "7 -"),
+        ("walker_start 6 2 3", "0 6 2 3 0"),
+        ("walker_step 6 2 3 5", "0 1 6 2 3 0"),
+        ("walker_step 6 2 3 6", "6 0 0 0 0 0"),
+        ("interleave_u8 9 1 3 ABCDEFGHI 255*2", "0 AEFDHIGBC 0,0"),
+        ("deinterleave_u8 9 1 3 65,66,67,68,69,70,71,72,73 1,2,3", "0 65,72,73,68,66,67,71,69,70 0,0,3"),
+        ("interleave_i16 4 1 2 -5,7,32767,-32768 0*1", "0 -5,-32768,32767,7 0"),
+        ("  deinterleave_i16  4 1 2 1,2,3 AB ", "4 1,2,3 65,66"),
+    ];
+    for (line, answer) in cases {
+        assert_eq!(answers(line.as_bytes()), [answer]);
+    }
+    assert_eq!(answers(b""), [] as [&str; 0]);
+    assert_eq!(answers(b"accept 4 1 1\n\naccept 4 1 2\n"), ["3", "? word 1: too few words", "0"]);
+}
+
+#[test]
+fn lines_that_are_no_question() {
+    let cases = [
+        ("acept 4 1 2", "? word 1: no such call"),
+        ("accept 4 1", "? word 4: too few words"),
+        ("accept 4 1 2 3", "? word 5: too many words"),
+        ("accept 4 1 2\r", "? word 4: no number"),
+        ("accept 4 -1 2", "? word 3: no number"),
+        ("accept 4294967296 x 2", "? word 2: a number above 4294967295"),
+        ("arp 8 1 4 ABC", "? word 5: no list"),
+        ("arp 8 1 4 1,,2", "? word 5: no list"),
+        ("arp 8 1 4 1,65536", "? word 5: an entry out of range"),
+        ("interleave_u8 4 1 2 1,2,3,4 -1", "? word 6: an entry out of range"),
+        ("interleave_i16 4 1 2 32768 x", "? word 5: an entry out of range"),
+        ("addresses 4 1 2 1,1*8200", "? word 5: a list of more than 8200 entries"),
+    ];
+    for (line, answer) in cases {
+        assert_eq!(answers(line.as_bytes()), [answer]);
+    }
+    let long = |size: usize| format!("accept 4 1 2{}", " ".repeat(size - 12));
+    assert_eq!(answers(long(65535).as_bytes()), ["0"]);
+    assert_eq!(answers(long(65536).as_bytes()), ["? a line of more than 65535 bytes"]);
+    assert_eq!(answers("interleave_u8 4 1 2 ".to_string().as_bytes()), ["? word 5: too few words"]);
+}
+
+/// Every call meets each of its numbers, and every kind of complaint is met.
+#[test]
+fn ask_input_is_as_meant() {
+    let mut input = Vec::new();
+    ask_input::write(&mut input).unwrap();
+    assert!(!input.ends_with(b"\n") && input.len() < 1_800_000);
+    let text = String::from_utf8_lossy(&input);
+    let answers = answers(&input);
+    let mut numbers = BTreeSet::new();
+    let mut complaints = BTreeSet::new();
+    for (line, answer) in text.split('\n').zip(&answers) {
+        let name = line.split_whitespace().next().unwrap_or_default();
+        let first = answer.split(' ').next().unwrap();
+        match answer.strip_prefix("? word ") {
+            Some(complaint) => complaints.insert(complaint[3..].to_string()),
+            None if first == "?" => complaints.insert(answer.clone()),
+            None => numbers.insert(format!("{name} {first}")),
+        };
+    }
+    let refusals = [
+        ("accept", "0123"),
+        ("address", "01236"),
+        ("reciprocal", "0123"),
+        ("spread", "0123"),
+        ("inverse", "0123"),
+        ("arp", "01237"),
+        ("addresses", "01237"),
+        ("walker_start", "0123"),
+        ("walker_step", "0126"),
+        ("interleave_u8", "012345"),
+        ("deinterleave_u8", "012345"),
+        ("interleave_i16", "012345"),
+        ("deinterleave_i16", "012345"),
+    ];
+    let all = refusals.iter().flat_map(|(name, list)| list.chars().map(move |n| format!("{name} {n}")));
+    assert_eq!(numbers, all.collect());
+    assert_eq!(complaints.len(), 9);
+}
+
+#[test]
+fn rows_that_no_quadratic_undoes() {
+    let above = standard_rows().into_iter().filter(|&row| inverse(row).degree > 2);
+    assert_eq!(above.count(), 35);
 }
 
 /// Every list of coefficients with the given count of choices at each degree.

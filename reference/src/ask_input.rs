@@ -1,0 +1,358 @@
+//! Input for a test of the ask program: many calls, and lines that are none.
+
+use crate::rows::standard_rows;
+use crate::shuffle::{start, step, Triple, DONE};
+use std::io::{self, Write};
+
+pub fn write(out: &mut impl Write) -> io::Result<()> {
+    let mut lines = Lines(Vec::new());
+    lines.triples();
+    lines.walks();
+    lines.lists();
+    lines.blocks();
+    lines.inverses();
+    lines.forms();
+    lines.language();
+    // The last one has no newline.
+    out.write_all(&lines.0.join(&b'\n'))
+}
+
+/// Both sides of every limit of a coefficient or a position.
+const EDGES: [u32; 6] = [0, 1, 2, 8191, 8192, u32::MAX];
+
+/// Triples that the scope names or that are large.
+const CHOSEN: [(u32, u32, u32); 9] = [
+    (1504, 23, 94),
+    (6016, 23, 94),
+    (8192, 1, 2),
+    (8193, 1, 2),
+    (1, 0, 0),
+    (5, 0, 0),
+    (5, 5, 0),
+    (5, 0, 5),
+    (9, 1, 3),
+];
+
+const MOVERS: [(&str, bool); 4] = [
+    ("interleave_u8", false),
+    ("deinterleave_u8", false),
+    ("interleave_i16", true),
+    ("deinterleave_i16", true),
+];
+
+fn all_triples(lengths: std::ops::RangeInclusive<u32>) -> Vec<Triple> {
+    let pairs = |k: u32| (0..k).flat_map(move |f1| (0..k).map(move |f2| Triple::new(k, f1, f2)));
+    lengths.flat_map(pairs).collect()
+}
+
+fn chosen() -> Vec<Triple> {
+    CHOSEN.map(|(k, f1, f2)| Triple::new(k, f1, f2)).to_vec()
+}
+
+/// The symbols of a short block again and again, in numbers.
+fn block(length: usize, wide: bool) -> String {
+    let symbol = |i: usize| match wide {
+        true => (32000 - 3203 * (i as i32 % 20)).to_string(),
+        false => ((37 * i + 11) % 256).to_string(),
+    };
+    (0..length).map(symbol).collect::<Vec<String>>().join(",")
+}
+
+struct Lines(Vec<Vec<u8>>);
+
+impl Lines {
+    fn add(&mut self, line: impl AsRef<[u8]>) {
+        self.0.push(line.as_ref().to_vec());
+    }
+
+    fn call(&mut self, name: &str, t: Triple) {
+        self.add(format!("{name} {} {} {}", t.k, t.f1, t.f2));
+    }
+
+    fn call_with(&mut self, name: &str, t: Triple, rest: impl ToString) {
+        self.add(format!("{name} {} {} {} {}", t.k, t.f1, t.f2, rest.to_string()));
+    }
+
+    fn triple(&mut self, t: Triple, positions: &[u32]) {
+        self.call("accept", t);
+        self.call("reciprocal", t);
+        for x in positions {
+            self.call_with("address", t, x);
+        }
+    }
+
+    /// Each coefficient at K as well; every position of a shuffle and the one past the last.
+    fn triples(&mut self) {
+        for k in 1..=24 {
+            for f1 in 0..=k {
+                for f2 in 0..=k {
+                    let t = Triple::new(k, f1, f2);
+                    let positions = if t.acceptance() == DONE { (0..=k).collect() } else { vec![0, k] };
+                    self.triple(t, &positions);
+                }
+            }
+        }
+        for k in [0, 1, 2, 8192, 8193, u32::MAX] {
+            for f1 in EDGES {
+                for f2 in EDGES {
+                    self.triple(Triple::new(k, f1, f2), &EDGES);
+                }
+            }
+        }
+        for t in chosen() {
+            self.triple(t, &[0, 1, 8, 9, 1503, 6015, 8191, 8192]);
+        }
+    }
+
+    /// Twice around and one step more, so that the return to position 0 is seen twice; then walkers made by hand.
+    fn walks(&mut self) {
+        for t in all_triples(2..=12).into_iter().chain(chosen()) {
+            self.call("walker_start", t);
+            let (number, mut walker) = start(t);
+            let steps = if number == DONE && t.k <= 12 { 2 * t.k + 1 } else { 0 };
+            for _ in 0..steps {
+                self.call_with("walker_step", walker.triple, walker.at);
+                walker = step(walker).2;
+            }
+        }
+        for k in [0, 1, 2, 3, 8192, 8193, u32::MAX] {
+            for f1 in &EDGES[..5] {
+                for f2 in &EDGES[..5] {
+                    for at in EDGES {
+                        self.call_with("walker_step", Triple::new(k, *f1, *f2), at);
+                    }
+                }
+            }
+        }
+    }
+
+    /// Lists too short, just long enough, and longer.
+    fn lists(&mut self) {
+        for t in all_triples(2..=12) {
+            for length in [t.k - 1, t.k, t.k + 2] {
+                self.call_with("addresses", t, format!("65535*{length}"));
+            }
+        }
+        for (k, f1, f2) in [(1, 0, 0), (8193, 1, 0), (4, 4, 1), (4, 1, 4), (4, 1, 1), (4, 1, 2)] {
+            self.call_with("addresses", Triple::new(k, f1, f2), "65535*3");
+            self.call_with("addresses", Triple::new(k, f1, f2), "-");
+        }
+        self.add("addresses 8192 1 2 9*8191");
+        self.add("addresses 8192 1 2 9*8193");
+    }
+
+    fn moves(&mut self, t: Triple, length: usize, scratch: usize) {
+        for (name, wide) in MOVERS {
+            self.call_with(name, t, format!("{} 255*{scratch}", block(length, wide)));
+        }
+    }
+
+    /// A scratch full of ones; for a short shuffle with a byte more than is needed.
+    fn blocks(&mut self) {
+        for t in all_triples(2..=20) {
+            let length = t.k as usize;
+            if t.acceptance() == DONE {
+                self.moves(t, length, length.div_ceil(8) + 1);
+            }
+        }
+        for length in [8, 9, 10] {
+            for scratch in [1, 2, 3] {
+                self.moves(Triple::new(9, 1, 3), length, scratch);
+            }
+        }
+        let refused = [(1, 0, 0), (8193, 1, 0), (4, 4, 1), (4, 1, 4), (4, 1, 1), (0, 0, 0), (u32::MAX, 1, 1)];
+        for (k, f1, f2) in refused {
+            self.moves(Triple::new(k, f1, f2), 4, 1);
+        }
+        for (k, f1, f2) in [(1504, 23, 94), (6016, 23, 94), (8192, 1, 2)] {
+            self.moves(Triple::new(k, f1, f2), k as usize, k as usize / 8);
+        }
+    }
+
+    fn inverses(&mut self) {
+        for t in all_triples(2..=40).into_iter().chain(chosen()).chain(standard_rows()) {
+            self.call("inverse", t);
+        }
+    }
+
+    /// Lists on both sides of the short periods.
+    fn forms(&mut self) {
+        for t in all_triples(1..=14).into_iter().chain(chosen()) {
+            for length in ["-", "65535", "65535*2", "65535*3", "65535*16"] {
+                self.call_with("arp", t, length);
+            }
+            self.call("spread", t);
+        }
+    }
+
+    /// The forms of words and lists, good ones and bad ones, and both sides of each limit.
+    fn language(&mut self) {
+        for line in WORDS {
+            self.add(line);
+        }
+        for byte in STRANGE {
+            self.add([b"address 40 3 10 ", &[byte][..]].concat());
+            self.add([b"address 40 3 10 7", &[byte][..]].concat());
+            self.add([b"address 40 3", &[byte][..], b"10 7"].concat());
+            self.add([b"arp 8 1 4 9,", &[byte][..], b"9"].concat());
+            self.add([b"arp 8 1 4 9", &[byte][..], b"9"].concat());
+            self.add([b"interleave_u8 4 1 2 ", &[byte][..], b"BCD 0"].concat());
+            self.add([b"interleave_u8 4 1 2 AB", &[byte][..], b"D 0"].concat());
+            self.add([b"accept", &[byte][..], b" 4 1 2"].concat());
+        }
+        for size in [8200, 8201] {
+            self.add(format!("arp 8 1 4 9*{size}"));
+            self.add(format!("addresses 4 1 2 9*{},7", size - 1));
+            self.add(format!("interleave_u8 4 1 2 7,9*{} 0", size - 1));
+            self.add(format!("interleave_u8 4 1 2 {} 0", "x".repeat(size)));
+            self.add(format!("interleave_i16 4 1 2 -9*{},-7*2,9 1", size - 3));
+            self.add(format!("interleave_i16 4 1 2 1,2,3,4 1*{size}"));
+        }
+        for (size, filling) in [(65535, " "), (65536, "0")] {
+            let rest = size - "accept 4 1 2".len();
+            self.add(format!("accept 4 1 {}2", filling.repeat(rest)));
+            self.add("accept 4 1 2");
+        }
+        self.add("walker_step 40 3 10 39");
+    }
+}
+
+/// Bytes on both sides of the digits and the letters, and others that a loose reader might let pass.
+const STRANGE: [u8; 22] = [
+    0, 9, 11, 13, 31, 33, b'+', b'.', b'/', b':', b'@', b'A', b'Z', b'[', b'_', b'`', b'a', b'z', b'{', 127,
+    160, 255,
+];
+
+const WORDS: &[&str] = &[
+    "",
+    " ",
+    "     ",
+    "  accept   40  3 10  ",
+    " accept 40 3 10",
+    "accept 40 3 10 ",
+    "accept 0000000000000000000000000040 003 0010",
+    "accept",
+    "accept 40",
+    "accept 40 3",
+    "accept 40 3 10 7",
+    "accept 40 3 10 accept 40 3 10",
+    "address 40 3 10",
+    "address 40 3 10 7 7",
+    "Accept 40 3 10",
+    "accep 40 3 10",
+    "accepts 40 3 10",
+    "addres 40 3 10 7",
+    "interleave_u16 4 1 2 1,2,3,4 0",
+    "interleave_u8b 4 1 2 1,2,3,4 0",
+    "deinterleave_i16s 4 1 2 1,2,3,4 0",
+    "qpp_accept 40 3 10",
+    "3 40 3 10",
+    "accept3 40 3 10",
+    "no_such x y z",
+    "? 40 3 10",
+    "accept x 3 y",
+    "accept 40 -3 10",
+    "accept 40 - 10",
+    "accept 40 3,1 10",
+    "accept 40 3*1 10",
+    "accept 4294967295 4294967295 4294967295",
+    "accept 4294967296 0 0",
+    "accept 40 4294967296 0",
+    "accept 40 3 4294967296",
+    "accept 40 3 4294967306",
+    "accept 40 3 42949672950",
+    "accept 40 3 18446744073709551626",
+    "accept 40 3 340282366920938463463374607431768211466",
+    "accept 99999999999999999999999999999999999999999999999x 3 10",
+    "accept x99999999999999999999999999999999999999999999999 3 10",
+    "accept 4294967296 x 3 10 7 7",
+    "reciprocal 40 3",
+    "reciprocal 40 3 10 10",
+    "spread 40 3 ten",
+    "inverse 40",
+    "inverse 40 3 10 0",
+    "walker_start 4 1 2 0",
+    "walker_step 4 1 2",
+    "walker_step 4 1 2 x",
+    "arp 8 1 4",
+    "arp 8 1 4 9*3 9",
+    "arp 8 1 4 ABC",
+    "arp 8 1 4 -",
+    "arp 8 1 4 --",
+    "arp 8 1 4 -,-",
+    "arp 8 1 4 ,",
+    "arp 8 1 4 ,9",
+    "arp 8 1 4 9,",
+    "arp 8 1 4 9,,9",
+    "arp 8 1 4 9;9",
+    "arp 8 1 4 9, 9",
+    "arp 8 1 4 9*",
+    "arp 8 1 4 *9",
+    "arp 8 1 4 *",
+    "arp 8 1 4 9**2",
+    "arp 8 1 4 9*2*1",
+    "arp 8 1 4 9*-2",
+    "arp 8 1 4 9*2,",
+    "arp 8 1 4 9*0",
+    "arp 8 1 4 9*0,8*0,7*0",
+    "arp 8 1 4 9*0,8*2,7*0,6",
+    "arp 8 1 4 009*003",
+    "arp 8 1 4 0,65535,7",
+    "arp 8 1 4 0,65536,7",
+    "arp 8 1 4 0,-0,7",
+    "arp 8 1 4 0,-1,7",
+    "arp 8 1 4 0,4294967296,7",
+    "arp 8 1 4 0,18446744073709551617,7",
+    "arp 8 1 4 0*4294967297",
+    "arp 8 1 4 0*18446744073709551617",
+    "arp 8 1 4 65536*9000",
+    "arp 8 1 4 65536*x",
+    "arp 8 1 4 x*9000",
+    "arp 8 1 4 1*9000,x",
+    "arp 8 1 4 x,1*9000",
+    "arp 8 1 4 99999,1*9000",
+    "arp 8 1 4 1*9000,99999",
+    "addresses 4 1 2 0,0,0,0,0,0",
+    "addresses 4 1 2 5*1,6*2,7",
+    "interleave_u8 9 1 3 ABCDEFGHI 255*2",
+    "deinterleave_u8 9 1 3 ABCDEFGHI 255*2",
+    "interleave_u8 9 1 3 ABCDEFGHI 170*3",
+    "interleave_u8 9 1 3 ABCDEFGH 255*2",
+    "interleave_u8 9 1 3 ABCDEFGHIJ 255*2",
+    "interleave_u8 9 1 3 ABCDEFGHI 255",
+    "interleave_u8 9 1 3 a,b*9-?! xyz",
+    "interleave_u8 9 1 3 zABCDEFGH Zz",
+    "deinterleave_u8 9 1 3 1,2,3,4,5,6,7,8,9 AZ",
+    "interleave_u8 9 1 3 1ABCDEFGH 255*2",
+    "interleave_u8 9 1 3 _ABCDEFGH 255*2",
+    "interleave_u8 9 1 3 ABCDEFGHI",
+    "interleave_u8 9 1 3 ABCDEFGHI 255*2 255*2",
+    "interleave_u8 9 1 3 ABC DEF GHI",
+    "interleave_u8 9 1 3 - -",
+    "interleave_u8 9 1 3 - 255*2",
+    "interleave_u8 9 1 3 ABCDEFGHI -",
+    "interleave_u8 4 1 2 0,255,1,254 0",
+    "interleave_u8 4 1 2 0,256,1,254 0",
+    "interleave_u8 4 1 2 0,-0,1,254 0",
+    "interleave_u8 4 1 2 0,-1,1,254 0",
+    "interleave_u8 4 1 2 0,1,2,3 255",
+    "interleave_u8 4 1 2 0,1,2,3 256",
+    "interleave_u8 4 1 2 0,1,2,3 -1",
+    "interleave_u8 4 1 2 256 x",
+    "interleave_u8 4 x 2 256 x",
+    "interleave_i16 4 1 2 -5,7,32767,-32768 0*1",
+    "deinterleave_i16 4 1 2 -5,7,32767,-32768 0*1",
+    "interleave_i16 4 1 2 -32768*4 9",
+    "interleave_i16 4 1 2 -32769,1,2,3 9",
+    "interleave_i16 4 1 2 32768,1,2,3 9",
+    "interleave_i16 4 1 2 -32767,-1,-0,0 9",
+    "interleave_i16 4 1 2 -65536,1,2,3 9",
+    "interleave_i16 4 1 2 ABCD 9",
+    "interleave_i16 4 1 2 --1,1,2,3 9",
+    "interleave_i16 4 1 2 1-,1,2,3 9",
+    "interleave_i16 4 1 2 +1,1,2,3 9",
+    "interleave_i16 4 1 2 -,1,2,3 9",
+    "interleave_i16 4 1 2 1,2,3,4 ABC",
+    "interleave_i16 4 1 2 1,2,3,4 256",
+    "interleave_i16 4 1 2 - -",
+];
