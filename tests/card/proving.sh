@@ -3,7 +3,7 @@
 # for what it builds and for the name of the machine.
 copy=$room/copy
 mkdir -p "$copy/crates/card/src" "$copy/bin"
-cp card "$copy/card"
+cp card programs.sh "$copy"
 cat >"$copy/crates.txt" <<'END'
 # three of these make up the program
 lowest:
