@@ -1,13 +1,7 @@
 // The program behind ./ask: reads standard input to its end, and answers each line on standard output.
-mod asking;
-mod calls;
-mod lists;
-mod words;
-mod writing;
-
-use writing::byte;
-use writing::flush;
-use writing::text;
+use asking::byte;
+use asking::flush;
+use asking::text;
 
 // How many bytes are kept of the line that has not ended, and where the answers end in the buffer.
 struct Progress {

@@ -1,4 +1,7 @@
 // The calls by their names, and what each prints.
+use crate::words;
+use crate::words::Reader;
+use crate::words::failed;
 use crate::writing::field;
 use crate::writing::number;
 use bytes::scan::find;
@@ -8,35 +11,42 @@ use qpp::Start;
 use qpp::Step;
 use qpp::Value;
 use qpp::Walker;
+ghost use mathlib.Core.Path.{_≡_};
+ghost use Prim.Native.Nat.{_≤_};
+ghost use lib.ListN.{length};
 
-// A call by its row in the table, from 1 on; 0 is no call. Of what kind it is: it takes three numbers or four, 3 or 4; or
+// The bytes of a row: a name, filled up with spaces, and the kind of the call. It takes three numbers or four, 3 or 4; or
 // three and a list, whose letter stands here.
-pub struct Call {
-    pub row: u32,
-    pub kind: u8,
-}
-
-// The bytes of a row: a name, filled up by spaces, and the kind.
 const ROW: usize = 18;
 
 const KIND: usize = 17;
 
-fn find_row(table: &[u8], name: &[u8]) -> Call {
-    let mut row = 1;
+// The row of a name, counted from 1.
+fn find_row(table: &[u8], name: &[u8], mut r: Reader) -> Reader
+    ensures { λ s. ⌜ s .end ≡ r .end ⌝ }
+{
+    let mut row = 0;
     let mut at = 0;
     while ROW <= table.len() - at {
+        row = std::num::wrapping_add_u32(row, 1);
         let end = find(table, at, at + ROW, b' ');
         if check::same(&table[at..end], name) {
-            let kind = table[at + KIND];
-            return Call { row, kind };
+            r.n = row;
+            r.kind = table[at + KIND];
+            return r;
         }
-        row = std::num::wrapping_add_u32(row, 1);
         at += ROW;
     }
-    Call { row: 0, kind: 0 }
+    failed(r, words::NO_CALL)
 }
 
-pub fn find_call(name: &[u8]) -> Call {
+// The first word as a call.
+pub fn take_call(line: &[u8]) -> Reader
+    ensures { λ s. ⌜ s .end ≤ length (now (line .entry)) ⌝ }
+{
+    let r = words::next(line, words::begin());
+    let from = r.from;
+    let end = r.end;
     find_row(
         b"accept           3\
           address          4\
@@ -51,7 +61,8 @@ pub fn find_call(name: &[u8]) -> Call {
           deinterleave_u8  b\
           interleave_i16   s\
           deinterleave_i16 s",
-        name,
+        &line[from..end],
+        r,
     )
 }
 

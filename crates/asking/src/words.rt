@@ -23,8 +23,8 @@ pub const FEW_WORDS: u8 = 7;
 
 pub const MANY_WORDS: u8 = 8;
 
-// Where the present word stands and the how manieth it is; what number it is, or how long a list and of what letter; and what
-// was wrong first.
+// Where the present word stands and the how manieth it is; what number it is, or how long a list; of what kind the call is, or
+// the list; and what was wrong first.
 pub struct Reader {
     pub from: usize,
     pub end: usize,

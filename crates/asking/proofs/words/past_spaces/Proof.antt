@@ -1,9 +1,9 @@
 -- `past_spaces`'s loop: the place is inside the line or at its end. The bytes left fall, so it ends.
 use Prim.Native.Nat.{_-_, _≤_}
 use lib.ListN.{length}
-use borrow.Author.Needs.{needs}
-use Rattle.ask.proofs.words.past_spaces.Statement.{statement}
-use Rattle.ask.proofs.words.past_spaces.Tie as tie
+use native.Mathlib.Omega.{arith}
+use Rattle.asking.proofs.words.past_spaces.Statement.{statement}
+use Rattle.asking.proofs.words.past_spaces.Tie as tie
 
 abbrev Inv-loop : tie.InvT-loop
 Inv-loop line from at₀ at = at ≤ length line
@@ -17,10 +17,10 @@ past-spaces-spec =
     (tie.spec
     Inv-loop
     μ-loop
-    (λ c. search needs)
-    (λ c. search needs)
-    (λ c. search needs)
-    (λ c. search needs)
-    (λ c. search needs)
-    (λ c. search needs)
-    (λ c. search needs))
+    (λ c. omega arith)
+    (λ c. omega arith)
+    (λ c. omega arith)
+    (λ c. omega arith)
+    (λ c. omega arith)
+    (λ c. omega arith)
+    (λ c. omega arith))

@@ -2,9 +2,10 @@
 -- bytes left fall, so it ends.
 use Prim.Native.Nat.{_-_, _≤_}
 use lib.ListN.{length}
+use native.Mathlib.Omega.{arith}
 use borrow.Author.Needs.{needs}
-use Rattle.ask.proofs.words.value_of.Statement.{statement}
-use Rattle.ask.proofs.words.value_of.Tie as tie
+use Rattle.asking.proofs.words.value_of.Statement.{statement}
+use Rattle.asking.proofs.words.value_of.Tie as tie
 
 abbrev Inv-loop : tie.InvT-loop
 Inv-loop text value₀ i₀ i-end value i = i ≤ length text
@@ -18,11 +19,11 @@ value-of-spec =
     (tie.spec
     Inv-loop
     μ-loop
-    (λ c. search needs)
-    (λ c. search needs)
-    (λ c. search needs)
+    (λ c. omega arith)
+    (λ c. omega arith)
+    (λ c. omega arith)
     (λ c κs. search needs)
-    (λ c. search needs)
-    (λ c. search needs)
-    (λ c. search needs)
-    (λ c. search needs))
+    (λ c. omega arith)
+    (λ c. omega arith)
+    (λ c. omega arith)
+    (λ c. omega arith))

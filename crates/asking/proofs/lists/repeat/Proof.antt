@@ -1,8 +1,9 @@
 -- `repeat`'s loop: the place is one of those asked for or past them. Those left fall, so it ends.
 use Prim.Native.Nat.{_-_, _≤_}
+use native.Mathlib.Omega.{arith}
 use borrow.Author.Needs.{needs}
-use Rattle.ask.proofs.lists.repeat.Statement.{statement}
-use Rattle.ask.proofs.lists.repeat.Tie as tie
+use Rattle.asking.proofs.lists.repeat.Statement.{statement}
+use Rattle.asking.proofs.lists.repeat.Tie as tie
 
 abbrev Inv-loop : tie.InvT-loop
 Inv-loop kind from to place b₀ e₀ s₀ i₀ b e s i = (from ≤ i) × (i ≤ to)
@@ -13,4 +14,4 @@ abbrev μ-loop : tie.MeasureT-loop
 pub repeat-spec : {M : Type 1} → statement M
 repeat-spec =
     tie.close
-    (tie.spec Inv-loop μ-loop (λ c. search needs) (λ c κs. search needs) (λ c. search needs) (λ c. search needs) (λ c. search needs) (λ c. search needs))
+    (tie.spec Inv-loop μ-loop (λ c. omega arith) (λ c κs. search needs) (λ c. omega arith) (λ c. omega arith) (λ c. omega arith) (λ c. omega arith))

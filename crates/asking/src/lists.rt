@@ -56,23 +56,6 @@ fn height(kind: u8) -> u64
 // The place of no entry of the width.
 const OUT: u64 = u64::MAX - 1;
 
-fn place(kind: u8, minus: bool, size: u64) -> u64 {
-    let depth = depth(kind);
-    if size == words::NONE {
-        return words::NONE;
-    }
-    if minus {
-        if size > depth {
-            return OUT;
-        }
-        return depth - size;
-    }
-    if size > height(kind) {
-        return OUT;
-    }
-    depth + size
-}
-
 // How many bytes the sign of a number takes.
 fn sign(text: &[u8]) -> usize
     ensures { λ r. ⌜ r ≤ length (now (text .entry)) ⌝ }
@@ -85,7 +68,21 @@ fn sign(text: &[u8]) -> usize
 
 fn place_of(kind: u8, text: &[u8]) -> u64 {
     let sign = sign(text);
-    place(kind, sign == 1, value_of(&text[sign..]))
+    let size = value_of(&text[sign..]);
+    let depth = depth(kind);
+    if size == words::NONE {
+        return words::NONE;
+    }
+    if sign == 1 {
+        if size > depth {
+            return OUT;
+        }
+        return depth - size;
+    }
+    if size > height(kind) {
+        return OUT;
+    }
+    depth + size
 }
 
 // How often an entry stands, by what follows it: a star and a number, or nothing.
@@ -212,21 +209,13 @@ fn read(word: &[u8], mut r: Reader, b: &mut Bytes, e: &mut Entries, s: &mut Symb
     fill(word, r, b, e, s)
 }
 
-// The next word as a list, where a list is asked for.
-pub fn take_list(
-    line: &[u8],
-    mut r: Reader,
-    kind: u8,
-    b: &mut Bytes,
-    e: &mut Entries,
-    s: &mut Symbols,
-) -> Reader
+// The next word as a list, where the kind is a letter.
+pub fn take_list(line: &[u8], mut r: Reader, b: &mut Bytes, e: &mut Entries, s: &mut Symbols) -> Reader
     requires { ⌜ r .end ≤ length (now line) ⌝ }
     ensures { λ s. ⌜ (s .end ≤ length (now (line .entry))) × (s .n ≤ 8200) ⌝ }
 {
-    r.kind = kind;
-    r.n = 0;
-    if !is_letter(kind) {
+    if !is_letter(r.kind) {
+        r.n = 0;
         return r;
     }
     let taken = words::next(line, r);
@@ -257,26 +246,19 @@ fn show_entry(out: &mut [u8], at: usize, kind: u8, i: usize, place: u16) -> usiz
     write_entry(out, apart, kind, place)
 }
 
-// A space and a list, where there is one.
-pub fn show(
-    out: &mut [u8],
-    at: usize,
-    kind: u8,
-    size: usize,
-    b: &Bytes,
-    e: &Entries,
-    s: &Symbols,
-) -> usize
-    requires { ⌜ size ≤ 8200 ⌝ }
+// A space and a list, where the kind is a letter.
+pub fn show(out: &mut [u8], at: usize, list: Reader, b: &Bytes, e: &Entries, s: &Symbols) -> usize
+    requires { ⌜ list .n ≤ 8200 ⌝ }
 {
+    let kind = list.kind;
     if !is_letter(kind) {
         return at;
     }
     let mut end = byte(out, at, b' ');
-    if size == 0 {
+    if list.n == 0 {
         return byte(out, end, b'-');
     }
-    for i in 0..size {
+    for i in 0..list.n as usize {
         end = show_entry(out, end, kind, i, stored(kind, i, b, e, s));
     }
     end

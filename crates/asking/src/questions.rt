@@ -1,12 +1,11 @@
 // What a line asks, and the answer to it.
 use crate::calls;
-use crate::calls::Call;
 use crate::lists::BYTES;
 use crate::lists::Bytes;
-use crate::lists::ENTRIES;
 use crate::lists::Entries;
 use crate::lists::SYMBOLS;
 use crate::lists::Symbols;
+use crate::lists::TEXT;
 use crate::lists::show;
 use crate::lists::take_list;
 use crate::words;
@@ -16,36 +15,37 @@ use crate::words::take_number;
 use crate::writing::number;
 use crate::writing::text;
 use qpp::Walker;
-ghost use mathlib.Core.Path.{_≡_};
 ghost use Prim.Native.Nat.{_≤_};
 ghost use lib.ListN.{length};
 
-// The first word, as far as it is read, and the call that it names.
-fn named(r: Reader, call: Call) -> Reader
-    ensures { λ s. ⌜ s .end ≡ r .end ⌝ }
-{
-    if call.row == 0 {
-        return failed(r, words::NO_CALL);
-    }
-    r
-}
-
-fn take_position(line: &[u8], r: Reader, kind: u8) -> Reader
+fn take_position(line: &[u8], r: Reader) -> Reader
     requires { ⌜ r .end ≤ length (now line) ⌝ }
     ensures { λ s. ⌜ s .end ≤ length (now (line .entry)) ⌝ }
 {
-    if kind == b'4' {
+    if r.kind == b'4' {
         return take_number(line, r);
     }
     r
 }
 
-// A block comes with a scratch, which is a list of bytes.
+// After a block comes a scratch, which is a list of bytes.
 fn scratch_kind(kind: u8) -> u8 {
     match kind {
-        BYTES | SYMBOLS => BYTES,
-        _ => b'3',
+        BYTES | TEXT | SYMBOLS => BYTES,
+        _ => 0,
     }
+}
+
+fn take_scratch(line: &[u8], mut r: Reader, b: &mut Bytes, e: &mut Entries, s: &mut Symbols) -> Reader
+    requires { ⌜ r .end ≤ length (now line) ⌝ }
+    ensures { λ s. ⌜ (s .end ≤ length (now (line .entry))) × (s .n ≤ 8200) ⌝ }
+{
+    let kind = scratch_kind(r.kind);
+    r.kind = kind;
+    let mut taken = take_list(line, r, b, e, s);
+    // It is shown in numbers, also if it came as a text, since the call leaves zeros there.
+    taken.kind = kind;
+    taken
 }
 
 // No word may be left.
@@ -60,9 +60,9 @@ fn ended(line: &[u8], r: Reader) -> Reader
     r
 }
 
-// A call, its numbers, its list, and its scratch as the last word.
+// A call by its row, its numbers, its list, and its scratch as the last word.
 struct Question {
-    call: Call,
+    row: u32,
     w: Walker,
     list: Reader,
     last: Reader,
@@ -77,26 +77,24 @@ fn read_question(
 ) -> Question
     ensures { λ q. ⌜ (q .list .n ≤ 8200) × (q .last .n ≤ 8200) ⌝ }
 {
-    let first = words::next(line, words::begin());
-    let from = first.from;
-    let end = first.end;
-    let call = calls::find_call(&line[from..end]);
-    let k = take_number(line, named(first, call));
+    let call = calls::take_call(line);
+    let k = take_number(line, call);
     let f1 = take_number(line, k);
     let f2 = take_number(line, f1);
-    let x = take_position(line, f2, call.kind);
-    let list = take_list(line, x, call.kind, b, e, s);
-    let marks = take_list(line, list, scratch_kind(call.kind), scratch, e, s);
+    let x = take_position(line, f2);
+    let list = take_list(line, x, b, e, s);
+    let last = ended(line, take_scratch(line, list, scratch, e, s));
+    let w = Walker {
+        k: k.n,
+        f1: f1.n,
+        f2: f2.n,
+        at: x.n,
+    };
     Question {
-        call,
-        w: Walker {
-            k: k.n,
-            f1: f1.n,
-            f2: f2.n,
-            at: x.n,
-        },
+        row: call.n,
+        w,
         list,
-        last: ended(line, marks),
+        last,
     }
 }
 
@@ -131,7 +129,7 @@ fn ask(
     let size = q.list.n as usize;
     let marks = q.last.n as usize;
     calls::make_call(
-        q.call.row,
+        q.row,
         q.w,
         &mut b[0..size],
         &mut e[0..size],
@@ -154,7 +152,7 @@ fn reply(
     requires { ⌜ (q .list .n ≤ 8200) × (q .last .n ≤ 8200) ⌝ }
 {
     let asked = ask(q, b, e, s, scratch, out, at);
-    show(out, asked, q.list.kind, q.list.n as usize, b, e, s)
+    show(out, asked, q.list, b, e, s)
 }
 
 // Answers a line that comes without its newline.
@@ -168,13 +166,5 @@ pub fn answer(line: &[u8], out: &mut [u8], at: usize) -> usize {
         return complain(out, at, q.last);
     }
     let listed = reply(q, &mut b, &mut e, &mut s, &mut scratch, out, at);
-    show(
-        out,
-        listed,
-        scratch_kind(q.call.kind),
-        q.last.n as usize,
-        &scratch,
-        &e,
-        &s,
-    )
+    show(out, listed, q.last, &scratch, &e, &s)
 }
