@@ -88,9 +88,10 @@ fn show_arp(out: &mut [u8], at: usize, form: ArpForm) -> usize {
 }
 
 fn show_walker(out: &mut [u8], at: usize, w: Walker) -> usize {
-    let with_k = field(out, at, w.k);
-    let with_f1 = field(out, with_k, w.f1);
-    let with_f2 = field(out, with_f1, w.f2);
+    let t = w.triple;
+    let with_k = field(out, at, t.k);
+    let with_f1 = field(out, with_k, t.f1);
+    let with_f2 = field(out, with_f1, t.f2);
     field(out, with_f2, w.at)
 }
 
@@ -116,9 +117,10 @@ pub fn make_call(
     out: &mut [u8],
     at: usize,
 ) -> usize {
-    let k = w.k;
-    let f1 = w.f1;
-    let f2 = w.f2;
+    let t = w.triple;
+    let k = t.k;
+    let f1 = t.f1;
+    let f2 = t.f2;
     match row {
         1 => number(out, at, qpp::accept(k, f1, f2)),
         2 => show_value(out, at, qpp::address(k, f1, f2, w.at)),
@@ -127,7 +129,7 @@ pub fn make_call(
         5 => show_inverse(out, at, qpp::inverse(k, f1, f2)),
         6 => show_arp(out, at, qpp::arp(k, f1, f2, entries)),
         7 => number(out, at, qpp::addresses(k, f1, f2, entries)),
-        8 => show_start(out, at, Walker::start(k, f1, f2)),
+        8 => show_start(out, at, qpp::walker_start(k, f1, f2)),
         9 => show_step(out, at, w.step()),
         10 => number(out, at, qpp::interleave_u8(k, f1, f2, bytes, scratch)),
         11 => number(out, at, qpp::deinterleave_u8(k, f1, f2, bytes, scratch)),

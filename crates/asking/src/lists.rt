@@ -210,7 +210,13 @@ fn read(word: &[u8], mut r: Reader, b: &mut Bytes, e: &mut Entries, s: &mut Symb
 }
 
 // The next word as a list, where the kind is a letter.
-pub fn take_list(line: &[u8], mut r: Reader, b: &mut Bytes, e: &mut Entries, s: &mut Symbols) -> Reader
+pub fn take_list(
+    line: &[u8],
+    mut r: Reader,
+    b: &mut Bytes,
+    e: &mut Entries,
+    s: &mut Symbols,
+) -> Reader
     requires { ⌜ r .end ≤ length (now line) ⌝ }
     ensures { λ s. ⌜ (s .end ≤ length (now (line .entry))) × (s .n ≤ 8200) ⌝ }
 {

@@ -15,6 +15,7 @@ use crate::words::take_number;
 use crate::writing::number;
 use crate::writing::text;
 use qpp::Walker;
+use triples::Triple;
 ghost use Prim.Native.Nat.{_≤_};
 ghost use lib.ListN.{length};
 
@@ -36,7 +37,13 @@ fn scratch_kind(kind: u8) -> u8 {
     }
 }
 
-fn take_scratch(line: &[u8], mut r: Reader, b: &mut Bytes, e: &mut Entries, s: &mut Symbols) -> Reader
+fn take_scratch(
+    line: &[u8],
+    mut r: Reader,
+    b: &mut Bytes,
+    e: &mut Entries,
+    s: &mut Symbols,
+) -> Reader
     requires { ⌜ r .end ≤ length (now line) ⌝ }
     ensures { λ s. ⌜ (s .end ≤ length (now (line .entry))) × (s .n ≤ 8200) ⌝ }
 {
@@ -84,12 +91,12 @@ fn read_question(
     let x = take_position(line, f2);
     let list = take_list(line, x, b, e, s);
     let last = ended(line, take_scratch(line, list, scratch, e, s));
-    let w = Walker {
+    let triple = Triple {
         k: k.n,
         f1: f1.n,
         f2: f2.n,
-        at: x.n,
     };
+    let w = Walker { triple, at: x.n };
     Question {
         row: call.n,
         w,
