@@ -43,8 +43,7 @@ fn take(piece: &[u8], line: &mut [u8], unended: usize, out: &mut [u8]) -> Progre
     Progress { size, at }
 }
 
-// Were the answers written? If not, that is told: a program has no exit status, so whoever calls it learns of a failure from
-// standard error alone.
+// Were the answers written? A program has no exit status: whoever calls it learns of a failure from standard error alone.
 fn written(progress: Progress) -> bool {
     if progress.at == 0 {
         return true;
@@ -54,6 +53,11 @@ fn written(progress: Progress) -> bool {
         b"ask: standard output cannot be written\n",
     );
     false
+}
+
+// Nobody knows the rest of a line that was cut off, so it gets no answer.
+fn say_unread() {
+    io::write_all(libc::STDERR_FILENO, b"ask: standard input cannot be read\n");
 }
 
 // A last line without its newline is answered like any other.
@@ -71,8 +75,7 @@ fn run(piece: &mut [u8], line: &mut [u8], out: &mut [u8]) {
     while turns > 0 {
         let got = libc::read(libc::STDIN_FILENO, piece);
         if got < 0 {
-            io::write_all(libc::STDERR_FILENO, b"ask: standard input cannot be read\n");
-            return;
+            return say_unread();
         }
         let count = io::count(got, piece);
         if count == 0 {
@@ -85,6 +88,7 @@ fn run(piece: &mut [u8], line: &mut [u8], out: &mut [u8]) {
         size = progress.size;
         turns -= 1;
     }
+    say_unread()
 }
 
 fn main() {

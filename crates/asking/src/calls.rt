@@ -106,17 +106,8 @@ fn show_step(out: &mut [u8], at: usize, step: Step) -> usize {
     show_walker(out, addressed, step.walker)
 }
 
-// Makes the call of a row on its numbers, held by a walker, and its lists; prints its number and its fields.
-pub fn make_call(
-    row: u32,
-    w: Walker,
-    bytes: &mut [u8],
-    entries: &mut [u16],
-    symbols: &mut [i16],
-    scratch: &mut [u8],
-    out: &mut [u8],
-    at: usize,
-) -> usize {
+// Makes the call of a row that moves no block, on its numbers, which a walker holds; prints its number and its fields.
+pub fn make_call(row: u32, w: Walker, list: &mut [u16], out: &mut [u8], at: usize) -> usize {
     let t = w.triple;
     let k = t.k;
     let f1 = t.f1;
@@ -127,14 +118,25 @@ pub fn make_call(
         3 => show_value(out, at, qpp::reciprocal(k, f1, f2)),
         4 => show_value(out, at, qpp::spread(k, f1, f2)),
         5 => show_inverse(out, at, qpp::inverse(k, f1, f2)),
-        6 => show_arp(out, at, qpp::arp(k, f1, f2, entries)),
-        7 => number(out, at, qpp::addresses(k, f1, f2, entries)),
+        6 => show_arp(out, at, qpp::arp(k, f1, f2, list)),
+        7 => number(out, at, qpp::addresses(k, f1, f2, list)),
         8 => show_start(out, at, qpp::walker_start(k, f1, f2)),
         9 => show_step(out, at, w.step()),
-        10 => number(out, at, qpp::interleave_u8(k, f1, f2, bytes, scratch)),
-        11 => number(out, at, qpp::deinterleave_u8(k, f1, f2, bytes, scratch)),
-        12 => number(out, at, qpp::interleave_i16(k, f1, f2, symbols, scratch)),
-        13 => number(out, at, qpp::deinterleave_i16(k, f1, f2, symbols, scratch)),
         _ => at,
+    }
+}
+
+// Makes the call of a row that moves a block, and answers its number.
+pub fn move_block(row: u32, w: Walker, b: &mut [u8], s: &mut [i16], scratch: &mut [u8]) -> u32 {
+    let t = w.triple;
+    let k = t.k;
+    let f1 = t.f1;
+    let f2 = t.f2;
+    match row {
+        10 => qpp::interleave_u8(k, f1, f2, b, scratch),
+        11 => qpp::deinterleave_u8(k, f1, f2, b, scratch),
+        12 => qpp::interleave_i16(k, f1, f2, s, scratch),
+        13 => qpp::deinterleave_i16(k, f1, f2, s, scratch),
+        _ => 0,
     }
 }

@@ -135,16 +135,17 @@ fn ask(
 {
     let size = q.list.n as usize;
     let marks = q.last.n as usize;
-    calls::make_call(
-        q.row,
-        q.w,
-        &mut b[0..size],
-        &mut e[0..size],
-        &mut s[0..size],
-        &mut scratch[0..marks],
-        out,
-        at,
-    )
+    if q.last.kind == BYTES {
+        let block = calls::move_block(
+            q.row,
+            q.w,
+            &mut b[0..size],
+            &mut s[0..size],
+            &mut scratch[0..marks],
+        );
+        return number(out, at, block);
+    }
+    calls::make_call(q.row, q.w, &mut e[0..size], out, at)
 }
 
 fn reply(
