@@ -11,16 +11,17 @@ ghost use Prim.Native.Nat.{_+_, _≤_, _<_};
 ghost use lib.ListN.{length};
 
 // What a list holds, by a letter: 16-bit entries, bytes, bytes that came as a text, or 16-bit symbols with a sign.
-pub const ENTRIES: u8 = b'l';
+const ENTRIES: u8 = b'l';
 
-pub const BYTES: u8 = b'b';
+const BYTES: u8 = b'b';
 
-pub const TEXT: u8 = b't';
+const TEXT: u8 = b't';
 
-pub const SYMBOLS: u8 = b's';
+const SYMBOLS: u8 = b's';
 
-// The longest list: as long as the longest block, and a little more. There is a buffer for each width.
-const LONGEST: usize = 8200;
+// The longest list: as long as the longest block, and a little more. There is a buffer for each width; where all three are
+// lent, they are b, e and s.
+const LONGEST: u32 = 8200;
 
 pub type Bytes = [u8; 8200];
 
@@ -146,44 +147,51 @@ fn repeat(
     }
 }
 
-// Stores the entries of a word. What is wrong first is noted, from left to right.
-fn fill(word: &[u8], mut r: Reader, b: &mut Bytes, e: &mut Entries, s: &mut Symbols) -> Reader
+// Stores an entry, with a star and its count or without, after those that are stored.
+fn take_entry(text: &[u8], mut r: Reader, b: &mut Bytes, e: &mut Entries, s: &mut Symbols) -> Reader
+    requires { ⌜ r .n ≤ 8200 ⌝ }
     ensures { λ s. ⌜ (s .end ≡ r .end) × (s .n ≤ 8200) ⌝ }
 {
-    let mut size = 0;
+    let star = find(text, 0, text.len(), b'*');
+    let place = place_of(r.kind, &text[0..star]);
+    let times = times_of(&text[star..]);
+    if place == words::NONE {
+        return failed(r, words::NO_LIST);
+    }
+    if times == words::NONE {
+        return failed(r, words::NO_LIST);
+    }
+    if place == OUT {
+        return failed(r, words::OUT_OF_RANGE);
+    }
+    if times > (LONGEST - r.n) as u64 {
+        return failed(r, words::LONG_LIST);
+    }
+    let size = r.n + times as u32;
+    repeat(r.kind, r.n as usize, size as usize, place, b, e, s);
+    r.n = size;
+    r
+}
+
+// Stores the entries of a word. Once one is wrong the rest does not matter: the first fault stays.
+fn fill(word: &[u8], r: Reader, b: &mut Bytes, e: &mut Entries, s: &mut Symbols) -> Reader
+    ensures { λ s. ⌜ (s .end ≡ r .end) × (s .n ≤ 8200) ⌝ }
+{
+    let mut filled = r;
+    filled.n = 0;
     let mut at = 0;
-    loop {
+    while at <= word.len() {
         let end = find(word, at, word.len(), b',');
-        let star = find(word, at, end, b'*');
-        let place = place_of(r.kind, &word[at..star]);
-        let times = times_of(&word[star..end]);
-        if place == words::NONE {
-            return failed(r, words::NO_LIST);
-        }
-        if times == words::NONE {
-            return failed(r, words::NO_LIST);
-        }
-        if place == OUT {
-            return failed(r, words::OUT_OF_RANGE);
-        }
-        if times > (LONGEST - size) as u64 {
-            return failed(r, words::LONG_LIST);
-        }
-        let past = size + times as usize;
-        repeat(r.kind, size, past, place, b, e, s);
-        size = past;
-        if end == word.len() {
-            r.n = size as u32;
-            return r;
-        }
+        filled = take_entry(&word[at..end], filled, b, e, s);
         at = end + 1;
     }
+    filled
 }
 
 fn copy(word: &[u8], mut r: Reader, b: &mut Bytes) -> Reader
     ensures { λ s. ⌜ (s .end ≡ r .end) × (s .n ≤ 8200) ⌝ }
 {
-    if word.len() > LONGEST {
+    if word.len() > LONGEST as usize {
         return failed(r, words::LONG_LIST);
     }
     r.n = bytes::copy(word, b) as u32;
@@ -228,6 +236,32 @@ pub fn take_list(
     let from = taken.from;
     let end = taken.end;
     read(&line[from..end], taken, b, e, s)
+}
+
+// After a block comes a scratch, which is a list of bytes.
+fn scratch_kind(kind: u8) -> u8 {
+    match kind {
+        BYTES | TEXT | SYMBOLS => BYTES,
+        _ => 0,
+    }
+}
+
+pub fn take_scratch(
+    line: &[u8],
+    mut r: Reader,
+    b: &mut Bytes,
+    e: &mut Entries,
+    s: &mut Symbols,
+) -> Reader
+    requires { ⌜ r .end ≤ length (now line) ⌝ }
+    ensures { λ s. ⌜ (s .end ≤ length (now (line .entry))) × (s .n ≤ 8200) ⌝ }
+{
+    let kind = scratch_kind(r.kind);
+    r.kind = kind;
+    let mut taken = take_list(line, r, b, e, s);
+    // It is shown in numbers, also if it came as a text, since the call leaves zeros there.
+    taken.kind = kind;
+    taken
 }
 
 fn write_entry(out: &mut [u8], at: usize, kind: u8, place: u16) -> usize {

@@ -1,13 +1,12 @@
 // What a line asks, and the answer to it.
 use crate::calls;
-use crate::lists::BYTES;
 use crate::lists::Bytes;
 use crate::lists::Entries;
-use crate::lists::SYMBOLS;
 use crate::lists::Symbols;
-use crate::lists::TEXT;
+use crate::lists::is_letter;
 use crate::lists::show;
 use crate::lists::take_list;
+use crate::lists::take_scratch;
 use crate::words;
 use crate::words::Reader;
 use crate::words::failed;
@@ -29,38 +28,12 @@ fn take_position(line: &[u8], r: Reader) -> Reader
     r
 }
 
-// After a block comes a scratch, which is a list of bytes.
-fn scratch_kind(kind: u8) -> u8 {
-    match kind {
-        BYTES | TEXT | SYMBOLS => BYTES,
-        _ => 0,
-    }
-}
-
-fn take_scratch(
-    line: &[u8],
-    mut r: Reader,
-    b: &mut Bytes,
-    e: &mut Entries,
-    s: &mut Symbols,
-) -> Reader
-    requires { ⌜ r .end ≤ length (now line) ⌝ }
-    ensures { λ s. ⌜ (s .end ≤ length (now (line .entry))) × (s .n ≤ 8200) ⌝ }
-{
-    let kind = scratch_kind(r.kind);
-    r.kind = kind;
-    let mut taken = take_list(line, r, b, e, s);
-    // It is shown in numbers, also if it came as a text, since the call leaves zeros there.
-    taken.kind = kind;
-    taken
-}
-
 // No word may be left.
 fn ended(line: &[u8], r: Reader) -> Reader
     requires { ⌜ (r .end ≤ length (now line)) × (r .n ≤ 8200) ⌝ }
     ensures { λ s. ⌜ s .n ≤ 8200 ⌝ }
 {
-    let rest = words::advance(line, r);
+    let rest = words::next(line, r);
     if rest.from < rest.end {
         return failed(rest, words::MANY_WORDS);
     }
@@ -135,15 +108,15 @@ fn ask(
 {
     let size = q.list.n as usize;
     let marks = q.last.n as usize;
-    if q.last.kind == BYTES {
-        let block = calls::move_block(
+    if is_letter(q.last.kind) {
+        let moved = calls::move_block(
             q.row,
             q.w,
             &mut b[0..size],
             &mut s[0..size],
             &mut scratch[0..marks],
         );
-        return number(out, at, block);
+        return number(out, at, moved);
     }
     calls::make_call(q.row, q.w, &mut e[0..size], out, at)
 }

@@ -72,28 +72,20 @@ fn past_spaces(line: &[u8], from: usize) -> usize
     at
 }
 
-// The next word, which is empty where the line has none. A line has few words, so their count never wraps.
-pub fn advance(line: &[u8], mut r: Reader) -> Reader
+// The next word; where the line has none it is empty, and missed. A line has few words, so their count never wraps.
+pub fn next(line: &[u8], mut r: Reader) -> Reader
     requires { ⌜ r .end ≤ length (now line) ⌝ }
     ensures { λ s. ⌜ (s .from ≤ s .end) × (s .end ≤ length (now (line .entry))) ⌝ }
 {
     let from = past_spaces(line, r.end);
+    let end = find(line, from, line.len(), b' ');
     r.from = from;
-    r.end = find(line, from, line.len(), b' ');
+    r.end = end;
     r.word = std::num::wrapping_add_u8(r.word, (r.fault == FINE) as u8);
-    r
-}
-
-// The next word, which must be there.
-pub fn next(line: &[u8], r: Reader) -> Reader
-    requires { ⌜ r .end ≤ length (now line) ⌝ }
-    ensures { λ s. ⌜ (s .from ≤ s .end) × (s .end ≤ length (now (line .entry))) ⌝ }
-{
-    let found = advance(line, r);
-    if found.from == found.end {
-        return failed(found, FEW_WORDS);
+    if from == end {
+        return failed(r, FEW_WORDS);
     }
-    found
+    r
 }
 
 const MOST: u64 = 4294967295;

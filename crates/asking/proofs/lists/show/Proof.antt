@@ -1,4 +1,5 @@
 -- `show`'s loop: the place is one of the list's or past them, the list fits, and the buffer keeps its length. Those left fall,
+-- so it ends.
 use mathlib.Core.Path.{_≡_}
 use Prim.Native.Nat.{_-_, _≤_}
 use lib.ListN.{length}
