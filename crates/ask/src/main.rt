@@ -1,58 +1,60 @@
 // The program behind ./ask: reads standard input to its end, and answers each line on standard output.
-use asking::byte;
-use asking::flush;
-use asking::text;
+mod calls;
+mod questions;
 
-// How many bytes are kept of the line that has not ended, and where the answers end in the buffer.
+// How many bytes are kept of the line that has not ended, and whether the answers so far were written.
 struct Progress {
     size: usize,
-    at: usize,
+    going: bool,
 }
 
-// A line that fills its buffer is too long: there may be more of it than was kept.
-fn answer(line: &[u8], size: usize, out: &mut [u8], at: usize) -> usize {
+// A line that fills its buffer is too long: there may be more of it than was kept. Whether an answer was written is seen at its
+// newline.
+fn answer(line: &[u8], size: usize) -> bool {
     if size >= line.len() {
-        return text(out, at, b"? a line of more than 65535 bytes\n");
+        return io::write_all(libc::STDOUT_FILENO, b"? a line of more than 65535 bytes\n");
     }
-    let end = asking::answer(&line[0..size], out, at);
-    byte(out, end, b'\n')
+    questions::answer(&line[0..size]);
+    io::write_all(libc::STDOUT_FILENO, b"\n")
 }
 
-fn take_byte(next: u8, line: &mut [u8], size: usize, out: &mut [u8], at: usize) -> Progress {
+fn take_byte(next: u8, line: &mut [u8], size: usize) -> Progress {
     if next == b'\n' {
-        let end = answer(line, size, out, at);
-        return Progress { size: 0, at: end };
+        let going = answer(line, size);
+        return Progress { size: 0, going };
     }
     if size >= line.len() {
-        return Progress { size, at };
+        return Progress { size, going: true };
     }
     line[size] = next;
-    Progress { size: size + 1, at }
+    Progress {
+        size: size + 1,
+        going: true,
+    }
 }
 
-// Takes a whole piece of the input. What it asks is answered before more is read: somebody may be waiting.
-fn take(piece: &[u8], line: &mut [u8], unended: usize, out: &mut [u8]) -> Progress {
+// Takes a whole piece of the input, or as much of it as is answered.
+fn take(piece: &[u8], line: &mut [u8], unended: usize) -> Progress {
     let mut size = unended;
-    let mut end = 0;
     for i in 0..piece.len() {
-        let taken = take_byte(piece[i], line, size, out, end);
+        let taken = take_byte(piece[i], line, size);
+        if !taken.going {
+            return taken;
+        }
         size = taken.size;
-        end = taken.at;
     }
-    let at = flush(out, end);
-    Progress { size, at }
+    Progress { size, going: true }
 }
 
 // Were the answers written? A program has no exit status: whoever calls it learns of a failure from standard error alone.
 fn written(progress: Progress) -> bool {
-    if progress.at == 0 {
-        return true;
+    if !progress.going {
+        io::write_all(
+            libc::STDERR_FILENO,
+            b"ask: standard output cannot be written\n",
+        );
     }
-    io::write_all(
-        libc::STDERR_FILENO,
-        b"ask: standard output cannot be written\n",
-    );
-    false
+    progress.going
 }
 
 // Nobody knows the rest of a line that was cut off, so it gets no answer.
@@ -61,15 +63,15 @@ fn say_unread() {
 }
 
 // A last line without its newline is answered like any other.
-fn finish(line: &mut [u8], size: usize, out: &mut [u8]) {
+fn finish(line: &mut [u8], size: usize) {
     if size > 0 {
-        written(take(b"\n", line, size, out));
+        written(take(b"\n", line, size));
     }
 }
 
 // A proved loop has to end, and nothing says that the input does. So the loop counts its turns down, from a
 // number that no run uses up.
-fn run(piece: &mut [u8], line: &mut [u8], out: &mut [u8]) {
+fn run(piece: &mut [u8], line: &mut [u8]) {
     let mut size = 0;
     let mut turns = u64::MAX;
     while turns > 0 {
@@ -79,9 +81,9 @@ fn run(piece: &mut [u8], line: &mut [u8], out: &mut [u8]) {
         }
         let count = io::count(got, piece);
         if count == 0 {
-            return finish(line, size, out);
+            return finish(line, size);
         }
-        let progress = take(&piece[..count], line, size, out);
+        let progress = take(&piece[..count], line, size);
         if !written(progress) {
             return;
         }
@@ -94,6 +96,5 @@ fn run(piece: &mut [u8], line: &mut [u8], out: &mut [u8]) {
 fn main() {
     let mut piece = io::large_buffer();
     let mut line = io::large_buffer();
-    let mut out = io::large_buffer();
-    run(&mut piece, &mut line, &mut out);
+    run(&mut piece, &mut line);
 }

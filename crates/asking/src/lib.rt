@@ -1,11 +1,5 @@
-// An answer for a line that names a call of the library and its arguments.
-mod calls;
-mod lists;
-mod questions;
-mod words;
-mod writing;
-
-pub use questions::answer;
-pub use writing::byte;
-pub use writing::flush;
-pub use writing::text;
+// A line that asks: its words, its numbers and its lists, and how they are written. Nothing here knows of a call.
+pub mod lists;
+pub mod printing;
+pub mod widths;
+pub mod words;

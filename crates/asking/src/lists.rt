@@ -1,10 +1,13 @@
 // The lists of a line, and what a call left in them.
+use crate::printing::number;
+use crate::printing::say;
+use crate::widths;
+use crate::widths::LONGEST;
+use crate::widths::List;
 use crate::words;
 use crate::words::Reader;
 use crate::words::failed;
 use crate::words::value_of;
-use crate::writing::byte;
-use crate::writing::number;
 use bytes::scan::find;
 ghost use mathlib.Core.Path.{_≡_};
 ghost use Prim.Native.Nat.{_+_, _≤_, _<_};
@@ -18,16 +21,6 @@ const BYTES: u8 = b'b';
 const TEXT: u8 = b't';
 
 const SYMBOLS: u8 = b's';
-
-// The longest list: as long as the longest block, and a little more. There is a buffer for each width; where all three are
-// lent, they are b, e and s.
-const LONGEST: u32 = 8200;
-
-pub type Bytes = [u8; 8200];
-
-pub type Entries = [u16; 8200];
-
-pub type Symbols = [i16; 8200];
 
 // A letter tells of a list; a call without one has a digit.
 pub fn is_letter(byte: u8) -> bool {
@@ -94,61 +87,16 @@ fn times_of(text: &[u8]) -> u64 {
     value_of(&text[1..])
 }
 
-// By a test and a flip of all bits, which turns n into -1 - n: arithmetic with signs is dear to prove.
-fn symbol_at(place: u16) -> i16 {
-    if place >= 32768 {
-        return (place - 32768) as i16;
-    }
-    (32767 - place) as i16 ^ -1
-}
-
-fn place_of_symbol(symbol: i16) -> u16 {
-    (symbol as i32 + 32768) as u16
-}
-
-fn store(kind: u8, at: usize, place: u64, b: &mut Bytes, e: &mut Entries, s: &mut Symbols)
-    requires { ⌜ at < 8200 ⌝ }
-{
-    let low = (place % 65536) as u16;
-    match kind {
-        SYMBOLS => s[at] = symbol_at(low),
-        ENTRIES => e[at] = low,
-        _ => b[at] = (place % 256) as u8,
-    }
-}
-
-fn wide(byte: u8) -> u16 {
-    byte as u16
-}
-
-fn stored(kind: u8, at: usize, b: &Bytes, e: &Entries, s: &Symbols) -> u16
-    requires { ⌜ at < 8200 ⌝ }
-{
-    match kind {
-        SYMBOLS => place_of_symbol(s[at]),
-        ENTRIES => e[at],
-        _ => wide(b[at]),
-    }
-}
-
-fn repeat(
-    kind: u8,
-    from: usize,
-    to: usize,
-    place: u64,
-    b: &mut Bytes,
-    e: &mut Entries,
-    s: &mut Symbols,
-)
+fn repeat(from: usize, to: usize, place: u16, list: &mut List)
     requires { ⌜ (from ≤ to) × (to ≤ 8200) ⌝ }
 {
     for i in from..to {
-        store(kind, i, place, b, e, s);
+        list[i] = place;
     }
 }
 
 // Stores an entry, with a star and its count or without, after those that are stored.
-fn take_entry(text: &[u8], mut r: Reader, b: &mut Bytes, e: &mut Entries, s: &mut Symbols) -> Reader
+fn take_entry(text: &[u8], mut r: Reader, list: &mut List) -> Reader
     requires { ⌜ r .n ≤ 8200 ⌝ }
     ensures { λ s. ⌜ (s .end ≡ r .end) × (s .n ≤ 8200) ⌝ }
 {
@@ -164,17 +112,17 @@ fn take_entry(text: &[u8], mut r: Reader, b: &mut Bytes, e: &mut Entries, s: &mu
     if place == OUT {
         return failed(r, words::OUT_OF_RANGE);
     }
-    if times > (LONGEST - r.n) as u64 {
+    if times > (8200 - r.n) as u64 {
         return failed(r, words::LONG_LIST);
     }
     let size = r.n + times as u32;
-    repeat(r.kind, r.n as usize, size as usize, place, b, e, s);
+    repeat(r.n as usize, size as usize, (place % 65536) as u16, list);
     r.n = size;
     r
 }
 
 // Stores the entries of a word. Once one is wrong the rest does not matter: the first fault stays.
-fn fill(word: &[u8], r: Reader, b: &mut Bytes, e: &mut Entries, s: &mut Symbols) -> Reader
+fn fill(word: &[u8], r: Reader, list: &mut List) -> Reader
     ensures { λ s. ⌜ (s .end ≡ r .end) × (s .n ≤ 8200) ⌝ }
 {
     let mut filled = r;
@@ -182,24 +130,27 @@ fn fill(word: &[u8], r: Reader, b: &mut Bytes, e: &mut Entries, s: &mut Symbols)
     let mut at = 0;
     while at <= word.len() {
         let end = find(word, at, word.len(), b',');
-        filled = take_entry(&word[at..end], filled, b, e, s);
+        filled = take_entry(&word[at..end], filled, list);
         at = end + 1;
     }
     filled
 }
 
-fn copy(word: &[u8], mut r: Reader, b: &mut Bytes) -> Reader
+fn copy(word: &[u8], mut r: Reader, list: &mut List) -> Reader
     ensures { λ s. ⌜ (s .end ≡ r .end) × (s .n ≤ 8200) ⌝ }
 {
-    if word.len() > LONGEST as usize {
+    if word.len() > LONGEST {
         return failed(r, words::LONG_LIST);
     }
-    r.n = bytes::copy(word, b) as u32;
+    for i in 0..word.len() {
+        list[i] = widths::wide(word[i]);
+    }
+    r.n = word.len() as u32;
     r
 }
 
 // Reads a word as a list: a dash is the empty one, and where bytes are asked for a word that begins with a letter is a text.
-fn read(word: &[u8], mut r: Reader, b: &mut Bytes, e: &mut Entries, s: &mut Symbols) -> Reader
+fn read(word: &[u8], mut r: Reader, list: &mut List) -> Reader
     ensures { λ s. ⌜ (s .end ≡ r .end) × (s .n ≤ 8200) ⌝ }
 {
     if check::same(word, b"-") {
@@ -210,21 +161,15 @@ fn read(word: &[u8], mut r: Reader, b: &mut Bytes, e: &mut Entries, s: &mut Symb
         if r.kind == BYTES {
             if is_letter(word[0]) {
                 r.kind = TEXT;
-                return copy(word, r, b);
+                return copy(word, r, list);
             }
         }
     }
-    fill(word, r, b, e, s)
+    fill(word, r, list)
 }
 
 // The next word as a list, where the kind is a letter.
-pub fn take_list(
-    line: &[u8],
-    mut r: Reader,
-    b: &mut Bytes,
-    e: &mut Entries,
-    s: &mut Symbols,
-) -> Reader
+pub fn take_list(line: &[u8], mut r: Reader, list: &mut List) -> Reader
     requires { ⌜ r .end ≤ length (now line) ⌝ }
     ensures { λ s. ⌜ (s .end ≤ length (now (line .entry))) × (s .n ≤ 8200) ⌝ }
 {
@@ -235,7 +180,7 @@ pub fn take_list(
     let taken = words::next(line, r);
     let from = taken.from;
     let end = taken.end;
-    read(&line[from..end], taken, b, e, s)
+    read(&line[from..end], taken, list)
 }
 
 // After a block comes a scratch, which is a list of bytes.
@@ -246,60 +191,65 @@ fn scratch_kind(kind: u8) -> u8 {
     }
 }
 
-pub fn take_scratch(
-    line: &[u8],
-    mut r: Reader,
-    b: &mut Bytes,
-    e: &mut Entries,
-    s: &mut Symbols,
-) -> Reader
+pub fn take_scratch(line: &[u8], mut r: Reader, list: &mut List) -> Reader
     requires { ⌜ r .end ≤ length (now line) ⌝ }
     ensures { λ s. ⌜ (s .end ≤ length (now (line .entry))) × (s .n ≤ 8200) ⌝ }
 {
     let kind = scratch_kind(r.kind);
     r.kind = kind;
-    let mut taken = take_list(line, r, b, e, s);
+    let mut taken = take_list(line, r, list);
     // It is shown in numbers, also if it came as a text, since the call leaves zeros there.
     taken.kind = kind;
     taken
 }
 
-fn write_entry(out: &mut [u8], at: usize, kind: u8, place: u16) -> usize {
+fn write_entry(kind: u8, place: u16) {
     let depth = depth(kind) as u32;
     let n = place as u32;
     if n < depth {
-        let signed = byte(out, at, b'-');
-        return number(out, signed, depth - n);
+        say(b"-");
+        return number(depth - n);
     }
-    number(out, at, n - depth)
+    number(n - depth)
 }
 
-// An entry with a comma before any but the first, or the byte of a text.
-fn show_entry(out: &mut [u8], at: usize, kind: u8, i: usize, place: u16) -> usize {
-    if kind == TEXT {
-        return byte(out, at, (place % 256) as u8);
+// An entry, with a comma before any but the first.
+fn show_entry(kind: u8, i: usize, place: u16) {
+    if i > 0 {
+        say(b",");
     }
-    if i == 0 {
-        return write_entry(out, at, kind, place);
-    }
-    let apart = byte(out, at, b',');
-    write_entry(out, apart, kind, place)
+    write_entry(kind, place)
 }
 
-// A space and a list, where the kind is a letter.
-pub fn show(out: &mut [u8], at: usize, list: Reader, b: &Bytes, e: &Entries, s: &Symbols) -> usize
-    requires { ⌜ list .n ≤ 8200 ⌝ }
+fn show_entries(kind: u8, list: &List, size: usize)
+    requires { ⌜ size ≤ 8200 ⌝ }
 {
-    let kind = list.kind;
+    for i in 0..size {
+        show_entry(kind, i, list[i]);
+    }
+}
+
+fn show_text(list: &List, size: usize)
+    requires { ⌜ size ≤ 8200 ⌝ }
+{
+    let mut text = [0u8; 8200];
+    widths::narrow(list, &mut text);
+    say(&text[0..size]);
+}
+
+// A space and a list of this size, where the kind is a letter.
+pub fn show(kind: u8, list: &List, size: usize)
+    requires { ⌜ size ≤ 8200 ⌝ }
+{
     if !is_letter(kind) {
-        return at;
+        return;
     }
-    let mut end = byte(out, at, b' ');
-    if list.n == 0 {
-        return byte(out, end, b'-');
+    say(b" ");
+    if size == 0 {
+        return say(b"-");
     }
-    for i in 0..list.n as usize {
-        end = show_entry(out, end, kind, i, stored(kind, i, b, e, s));
+    if kind == TEXT {
+        return show_text(list, size);
     }
-    end
+    show_entries(kind, list, size)
 }

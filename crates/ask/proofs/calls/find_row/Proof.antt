@@ -5,8 +5,8 @@ use Prim.Native.Nat.{_-_, _≤_}
 use lib.ListN.{length}
 use native.Mathlib.Omega.{arith}
 use borrow.Author.Needs.{needs}
-use Rattle.asking.proofs.calls.find_row.Statement.{statement}
-use Rattle.asking.proofs.calls.find_row.Tie as tie
+use Rattle.ask.proofs.calls.find_row.Statement.{statement}
+use Rattle.ask.proofs.calls.find_row.Tie as tie
 
 abbrev Inv-loop : tie.InvT-loop
 Inv-loop table name r₀ row₀ at₀ r row at = (at ≤ length table) × (r .end ≡ r₀ .end)

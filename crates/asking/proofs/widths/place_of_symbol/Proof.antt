@@ -10,8 +10,8 @@ use mir.Syntax.{w16, w32}
 use mir.Val.{Fits, SFits, toZ, ofZ}
 use mir.Facts.{toZ-ofZ, sfits-widen}
 use borrow.Author.Needs.{needs}
-use Rattle.asking.proofs.lists.place_of_symbol.Statement.{statement}
-use Rattle.asking.proofs.lists.place_of_symbol.Tie as tie
+use Rattle.asking.proofs.widths.place_of_symbol.Statement.{statement}
+use Rattle.asking.proofs.widths.place_of_symbol.Tie as tie
 
 record Raised (z : ℤ) : Type 0 where
   n : ℕ
