@@ -1,12 +1,9 @@
-// Blocks moved in place by a map. A mover asks the map for a place at each step, and knows nothing else of it. It walks one cycle after
-// the other, each from the first place that no walk has left.
+// What every mover is made of. Blocks are moved in place by a map. A mover asks the map for a place at each step, and knows nothing else
+// of it. It walks one cycle after the other, each from the first place that no walk has left.
 //
 // Both widths go the same way. Interleaving, each place takes the symbol of the place that the map leads to; the first symbol is in
 // hand, since its place is the first to be stored to. Deinterleaving, each symbol goes to the place that the map leads to, and the one
 // that stood there is carried on.
-pub mod bytes; // blocks of unsigned bytes
-pub mod words; // blocks of signed 16-bit values
-
 ghost use Prim.Native.Nat.{_/_, _≤_, _<_};
 ghost use lib.ListN.{length};
 ghost use Rattle.permuting.specs.Bitmap.{Followed};

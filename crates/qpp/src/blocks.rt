@@ -1,6 +1,4 @@
 // The calls that move the symbols of a lent block.
-use moving::bytes;
-use moving::words;
 use refusals::DONE;
 use triples::Triple;
 ghost use lib.IntN.{pos};
@@ -37,7 +35,7 @@ pub extern "C" fn qpp_interleave_u8(
     if number != DONE {
         return number;
     }
-    bytes::interleave_u8(maps::map_of(t), block, scratch);
+    moving_bytes::interleave_u8(maps::map_of(t), block, scratch);
     DONE
 }
 
@@ -57,7 +55,7 @@ pub extern "C" fn qpp_deinterleave_u8(
     if number != DONE {
         return number;
     }
-    bytes::deinterleave_u8(maps::map_of(t), block, scratch);
+    moving_bytes::deinterleave_u8(maps::map_of(t), block, scratch);
     DONE
 }
 
@@ -77,7 +75,7 @@ pub extern "C" fn qpp_interleave_i16(
     if number != DONE {
         return number;
     }
-    words::interleave_i16(maps::map_of(t), block, scratch);
+    moving_words::interleave_i16(maps::map_of(t), block, scratch);
     DONE
 }
 
@@ -97,6 +95,6 @@ pub extern "C" fn qpp_deinterleave_i16(
     if number != DONE {
         return number;
     }
-    words::deinterleave_i16(maps::map_of(t), block, scratch);
+    moving_words::deinterleave_i16(maps::map_of(t), block, scratch);
     DONE
 }
