@@ -9,6 +9,7 @@ use asking::words::failed;
 use bytes::scan::find;
 use qpp::ArpForm;
 use qpp::InverseForm;
+use qpp::Reason;
 use qpp::Start;
 use qpp::Step;
 use qpp::Value;
@@ -63,7 +64,8 @@ pub fn take_call(line: &[u8]) -> Reader
           interleave_u8    b\
           deinterleave_u8  b\
           interleave_i16   s\
-          deinterleave_i16 s",
+          deinterleave_i16 s\
+          explain          3",
         &line[from..end],
         r,
     )
@@ -106,6 +108,14 @@ fn show_step(step: Step) {
     number(step.number);
     field(step.address);
     show_walker(step.walker)
+}
+
+fn show_reason(reason: Reason) {
+    number(reason.number);
+    field(reason.y);
+    field(reason.x);
+    field(reason.address);
+    field(reason.prime)
 }
 
 fn moved_bytes(t: Triple, back: bool, block: &mut [u8], marks: &mut [u8]) -> u32 {
@@ -203,6 +213,7 @@ pub fn make_call(
         11 => number(move_bytes(t, true, list, size, scratch, count)),
         12 => number(move_symbols(t, false, list, size, scratch, count)),
         13 => number(move_symbols(t, true, list, size, scratch, count)),
+        14 => show_reason(qpp::explain(k, f1, f2)),
         _ => {}
     }
 }

@@ -6,5 +6,8 @@ pub mod Congruences
 pub mod Reciprocals
 pub mod Absorption
 pub mod Primes
+pub mod PrimePowers
+pub mod Factors
+pub mod Residues
 pub mod Lists
 pub mod Computation

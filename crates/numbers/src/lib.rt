@@ -1,4 +1,8 @@
-// Numbers: the greatest common divisor and what rests on it. Nothing here knows of a shuffle.
+// Numbers: the greatest common divisor and what rests on it, and primes. Nothing here knows of a shuffle.
+mod factoring;
+
+pub use factoring::Factor;
+pub use factoring::first_factor;
 ghost use mathlib.Core.Path.{_≡_};
 ghost use Prim.Native.Nat.{_*_, _%_, _≤_, _<_};
 ghost use Rattle.numbers.specs.Divisors.{IsGcd, Coprime};

@@ -152,3 +152,7 @@ kept-none n s = record { size = refl; tail = refl }
 
 pub kept-then : {n : ℕ} {s₀ s₁ s₂ : List ℕ} → Kept n s₀ s₁ → Kept n s₁ s₂ → Kept n s₀ s₂
 kept-then a b = record { size = b .size ∙ a .size; tail = b .tail ∙ a .tail }
+
+-- a mark leaves the length
+pub marked-length : {i : ℕ} {s₀ s₁ : List ℕ} → Marked i s₀ s₁ → length s₁ ≡ length s₀
+marked-length {i} m = m .kept (i / 8 + 1) (omega arith) .size

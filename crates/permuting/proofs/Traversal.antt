@@ -11,7 +11,7 @@ use Rattle.permuting.specs.Permutations.{Permutation, count}
 use Rattle.permuting.specs.Blocks.{Direction, interleave, deinterleave, Permuted}
 use Rattle.permuting.specs.Scratch.{Cleared}
 use Rattle.permuting.specs.Bitmap.{marks, Kept, Marked, Followed, FirstFree}
-use Rattle.permuting.proofs.Bitmap.{length-marks, kept-none, kept-then}
+use Rattle.permuting.proofs.Bitmap.{length-marks, kept-none, kept-then, marked-length}
 use Rattle.permuting.proofs.Scratch.{cleared-none-marked}
 use Rattle.permuting.proofs.Cycles.{Seen, Unseen, fewer-unseen, OffCycle, OnCycle, cycles-begin, cycles-skip, cycle-open, cycle-step, cycle-close, in-marks, start-seen}
 use Rattle.permuting.proofs.Symbols.{to, from, Moved, moved-begin, moved-open, moved-close, moved-store, next-unmoved, moved-end}
@@ -98,7 +98,7 @@ module _ {w : Direction} {A : Type 0} {d : A} {k : ℕ} {π : ℕ → ℕ} {old 
     still-kept = kept-then (a .kept) (m .kept ((k + 7) / 8) (omega (arith, a .cycles .i-lt)))
 
     still-room : k ≤ 8 * length s′
-    still-room = omega (arith, a .room, m .kept (i / 8 + 1) (omega arith) .size)
+    still-room = omega (arith, a .room, marked-length m)
 
     stored : (v : A) → v ≡ getD old (from w π i) d → Moved w d k π old (set xs (to w π i) v) (marks k s′) (π i)
     stored v e = rw (m .marks k) (moved-store (a .perm) (a .cycles) (a .block) v e)

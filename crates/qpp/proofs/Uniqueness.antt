@@ -9,15 +9,19 @@ use Rattle.spreading.proofs.Spreads.{spread-one}
 use Rattle.numbers.proofs.Lists.{written-one}
 use Rattle.permuting.specs.Formulas.{Formula}
 use Rattle.triples.specs.declared.Triple.{Triple}
-use Rattle.triples.specs.Shuffles.{oddForm}
+use Rattle.triples.specs.Shuffles.{quadratic, oddForm}
 use Rattle.qpp.specs.declared.shuffles.Value.{Value}
 use Rattle.qpp.specs.declared.inverses.InverseForm.{InverseForm}
 use Rattle.qpp.specs.declared.lists.ArpForm.{ArpForm}
+use Rattle.qpp.specs.declared.explanations.Reason.{Reason}
 use Rattle.qpp.specs.declared.walker.Walker.{Walker}
 use Rattle.qpp.specs.declared.walker.Start.{Start}
 use Rattle.qpp.specs.declared.walker.Step.{Step}
 use Rattle.qpp.specs.Walkers.{Started, Stepped}
-use Rattle.qpp.specs.Promises.{Address, ReciprocalOf, AddressList, ArpOf, SpreadOf, InverseOf}
+use Rattle.qpp.specs.Promises.{Address, ReciprocalOf, AddressList, ArpOf, SpreadOf, InverseOf, ReasonOf}
+use Rattle.explaining.specs.Reasons.{FirstCollision, LeastFailing}
+use Rattle.explaining.proofs.Collisions.{collision-one}
+use Rattle.explaining.proofs.Failures.{least-failing-one}
 use Rattle.refusals.proofs.Answers.{answer-one}
 
 value-same : {r s : Value} → (r .number ≡ s .number) × (r .value ≡ s .value) → r ≡ s
@@ -59,3 +63,18 @@ pub inverse-of-one : {t : Triple} {r s : InverseForm} → InverseOf t r → Inve
 inverse-of-one {t} {r} {s} x y =
     let e = answer-one inverted-one (λ p q. (p .0 ∙ sym (q .0), p .1 ∙ sym (q .1))) x y in
     λ i. record { number = e .0 i; degree = e .1 .0 i; a = e .1 .1 i }
+
+pub reason-of-one : {t : Triple} {r s : Reason} → ReasonOf t r → ReasonOf t s → r ≡ s
+reason-of-one {t} {r} {s} a b =
+    let e = answer-one done nothing a b in
+    λ i. record { number = e .0 i; y = e .1 .0 i; x = e .1 .1 i; address = e .1 .2 i; prime = e .1 .3 i }
+  where
+    Same : Type 0
+    Same = (r .y ≡ s .y) × (r .x ≡ s .x) × (r .address ≡ s .address) × (r .prime ≡ s .prime)
+
+    done : FirstCollision (quadratic t) (r .y) (r .x) (r .address) × LeastFailing t (r .prime)
+        → FirstCollision (quadratic t) (s .y) (s .x) (s .address) × LeastFailing t (s .prime) → Same
+    done p q = let c = collision-one (quadratic t) (p .0) (q .0) in (c .0, c .1, c .2, least-failing-one (p .1) (q .1))
+
+    nothing : (r .y ≡ 0) × (r .x ≡ 0) × (r .address ≡ 0) × (r .prime ≡ 0) → (s .y ≡ 0) × (s .x ≡ 0) × (s .address ≡ 0) × (s .prime ≡ 0) → Same
+    nothing p q = (p .0 ∙ sym (q .0), p .1 ∙ sym (q .1), p .2 ∙ sym (q .2), p .3 ∙ sym (q .3))

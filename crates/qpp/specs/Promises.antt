@@ -12,10 +12,12 @@ use Rattle.numbers.specs.Lists.{Written}
 use Rattle.polynomials.specs.Inverses.{Inverted}
 use Rattle.arp.specs.Arp.{Period, Arp}
 use Rattle.spreading.specs.Spreads.{Spread}
-use Rattle.refusals.specs.Refusals.{Answer, shuffle-tests, block-tests, no-position, no-list}
+use Rattle.explaining.specs.Reasons.{FirstCollision, LeastFailing}
+use Rattle.refusals.specs.Refusals.{Answer, range-tests, shuffle-tests, block-tests, no-position, no-list, nothing-to-explain}
 use Rattle.qpp.specs.declared.shuffles.Value.{Value}
 use Rattle.qpp.specs.declared.inverses.InverseForm.{InverseForm}
 use Rattle.qpp.specs.declared.lists.ArpForm.{ArpForm}
+use Rattle.qpp.specs.declared.explanations.Reason.{Reason}
 
 -- The address of a position.
 abbrev pub Address : Formula → ℕ → Value → Type 0
@@ -54,3 +56,10 @@ ArpOf t before r after =
 abbrev pub InverseOf : Triple → InverseForm → Type 0
 InverseOf t r =
     Answer (shuffle-tests (quadratic t)) [] (r .number) (Inverted (t .k) (f t) (r .degree) (r .a)) ((r .degree ≡ 0) × (r .a ≡ replicate 13 0))
+
+-- The explanation of a triple in range that is refused: two positions that share an address, and a prime of K.
+abbrev pub ReasonOf : Triple → Reason → Type 0
+ReasonOf t r =
+    Answer (range-tests (quadratic t)) (nothing-to-explain (quadratic t) ∷ []) (r .number)
+    (FirstCollision (quadratic t) (r .y) (r .x) (r .address) × LeastFailing t (r .prime))
+    ((r .y ≡ 0) × (r .x ≡ 0) × (r .address ≡ 0) × (r .prime ≡ 0))

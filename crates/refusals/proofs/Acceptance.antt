@@ -1,15 +1,16 @@
 -- What acceptance means: for a formula of any kind, and for a triple.
-use mathlib.Core.Path.{_≡_, refl}
+use mathlib.Core.Path.{_≡_, refl, subst}
 use mathlib.Core.Logic.{_↔_, _⊎_, inl, inr, by-cases}
 use mathlib.Core.List.{List, [], _∷_, _++_}
 use Prim.Native.Nat.{ℕ, _≤_, _<_}
-use native.Mathlib.Decide.{ℕ-discrete, decLt}
+use native.Mathlib.Decide.{decLt}
 use native.Mathlib.Omega.{arith}
 use Rattle.permuting.specs.Formulas.{Formula, Permutes}
+use Rattle.permuting.proofs.Formulas.{permutes-stable}
 use Rattle.triples.specs.declared.Triple.{Triple}
 use Rattle.triples.specs.Shuffles.{quadratic, InRange, Shuffle}
-use Rattle.refusals.specs.Refusals.{Test, Reaches, First, range-tests, shuffle-tests, Acceptance}
-use Rattle.refusals.proofs.Tests.{None, none, none-before, none-first, first-one}
+use Rattle.refusals.specs.Refusals.{Test, Reaches, First, no-shuffle, nothing-to-explain, range-tests, shuffle-tests, Acceptance}
+use Rattle.refusals.proofs.Tests.{None, none, none-before, none-first, first-one, passes, splits}
 
 -- ---- a formula of any kind
 
@@ -59,12 +60,8 @@ module _ (φ : Formula) where
       short (inl h) = omega (arith, r .low)
       short (inr h) = omega (arith, r .high)
 
-  -- "no two positions share a value" may be shown by its contrary's
-  stable : ¬ (¬ Permutes φ) → Permutes φ
-  stable h x y lx ly e = by-cases (ℕ-discrete x y) (λ s. s) (λ s. absurd (h (λ p. s (p x y lx ly e))))
-
   pub accepted-if : None (shuffle-tests φ) → Accepted φ
-  accepted-if h = record { range = ranged-if (h .0, (h .1 .0, tt)); permutes = stable (h .1 .1 .0) }
+  accepted-if h = record { range = ranged-if (h .0, (h .1 .0, tt)); permutes = permutes-stable φ (h .1 .1 .0) }
 
   pub if-accepted : Accepted φ → None (shuffle-tests φ)
   if-accepted a = let r = if-ranged (a .range) in (r .0, (r .1 .0, ((λ not. not (a .permutes)), tt)))
@@ -73,6 +70,43 @@ module _ (φ : Formula) where
   pub accepted-exactly : {n : ℕ} → Acceptance φ n → (n ≡ 0) ↔ Accepted φ
   accepted-exactly first =
       ((λ z. accepted-if (none (shuffle-tests φ) tt first z)), λ a. first-one (shuffle-tests φ) first (none-first (shuffle-tests φ) (if-accepted a) refl))
+
+-- ---- one that is refused by 3
+
+abbrev pub explain-tests : Formula → List Test
+explain-tests φ = range-tests φ ++ (nothing-to-explain φ ∷ [])
+
+pub record Refused (φ : Formula) : Type 0 where
+  pub range : Ranged φ
+  pub fails : ¬ Permutes φ
+
+module _ (φ : Formula) where
+  pub refused-by-three : Acceptance φ 3 → Refused φ
+  refused-by-three (inl (e, h)) = absurd (omega arith)
+  refused-by-three (inr (a, inl (e, h))) = absurd (omega arith)
+  refused-by-three (inr (a, inr (b, inl (e, h)))) = record { range = ranged-if φ (a, (b, tt)); fails = h }
+  refused-by-three (inr (a, inr (b, inr (c, e)))) = absurd (omega arith)
+
+  pub explained-if : {n : ℕ} → First (explain-tests φ) n → n ≡ 0 → Refused φ
+  explained-if first z =
+      record {
+        range = ranged-if φ (none-before (range-tests φ) (nothing-to-explain φ ∷ []) tt first z);
+        fails = none (nothing-to-explain φ ∷ []) tt (splits (range-tests φ) (nothing-to-explain φ ∷ []) tt first z) z .0;
+      }
+
+  -- 3 is given exactly where there is something to explain
+  pub refused-exactly : {n m : ℕ} → Acceptance φ n → First (explain-tests φ) m → (n ≡ 3) ↔ (m ≡ 0)
+  refused-exactly {n} {m} first second = (to, from)
+    where
+      to : n ≡ 3 → m ≡ 0
+      to e =
+          let r = refused-by-three (subst (λ (i : ℕ). Acceptance φ i) e first) in
+          first-one (explain-tests φ) second (passes (range-tests φ) (nothing-to-explain φ ∷ []) 0 (if-ranged φ (r .range)) (inr (r .fails, refl)))
+
+      from : m ≡ 0 → n ≡ 3
+      from z =
+          let r = explained-if second z in
+          first-one (shuffle-tests φ) first (passes (range-tests φ) (no-shuffle φ ∷ []) 3 (if-ranged φ (r .range)) (inl (refl, r .fails)))
 
 -- ---- a triple
 
@@ -105,6 +139,9 @@ module _ {t : Triple} where
 
   pub none-shuffle : Shuffle t → None (shuffle-tests (quadratic t))
   none-shuffle s = if-accepted (quadratic t) (accepted-of s)
+
+  pub refused-range : Refused (quadratic t) → InRange t
+  refused-range r = in-range (r .range)
 
   -- number 0 is given exactly to a shuffle
   pub shuffle-exactly : {n : ℕ} → Acceptance (quadratic t) n → (n ≡ 0) ↔ Shuffle t

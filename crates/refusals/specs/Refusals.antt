@@ -38,6 +38,10 @@ no-position k x = record { number = 6; applies = k ≤ x }
 abbrev pub no-list : (ℕ → Type 0) → ℕ → Test
 no-list Needed size = record { number = 7; applies = (n : ℕ) × Needed n × (size < n) }
 
+-- An accepted formula has nothing to be explained.
+abbrev pub nothing-to-explain : Formula → Test
+nothing-to-explain φ = record { number = 8; applies = Permutes φ }
+
 -- n is the number of the first test that applies, and 0 where none does.
 abbrev pub First : List Test → ℕ → Type 0
 First [] n = n ≡ 0

@@ -6,7 +6,8 @@ ghost use mathlib.Core.List.{[], _∷_};
 ghost use Prim.Native.Nat.{_≤_};
 ghost use Rattle.permuting.specs.Blocks.{marks-of};
 ghost use Rattle.triples.specs.Shuffles.{quadratic};
-ghost use Rattle.refusals.specs.Refusals.{First, range-tests, Acceptance, block-tests, no-position, no-list};
+ghost use Rattle.refusals.specs.Refusals.{First, range-tests, Acceptance, block-tests, no-position, no-list, nothing-to-explain};
+ghost use Rattle.refusals.specs.Leads.{Leads};
 
 pub const DONE: u32 = 0;
 
@@ -23,6 +24,8 @@ pub const NO_SCRATCH: u32 = 5;
 pub const NO_POSITION: u32 = 6;
 
 pub const NO_LIST: u32 = 7;
+
+pub const NOTHING_TO_EXPLAIN: u32 = 8;
 
 const SHORTEST: u32 = 2;
 
@@ -59,6 +62,20 @@ pub fn accept(t: Triple) -> u32
         return DONE;
     }
     NO_SHUFFLE
+}
+
+// Is the triple in range and no shuffle, so that there is something to explain?
+pub fn explainable(t: Triple) -> u32
+    ensures { λ number. ⌜ Leads (range-tests (quadratic t)) (nothing-to-explain (quadratic t) ∷ []) number ⌝ }
+{
+    let number = range(t);
+    if number != DONE {
+        return number;
+    }
+    if acceptance::permutes(t) {
+        return NOTHING_TO_EXPLAIN;
+    }
+    DONE
 }
 
 // May a block and a scratch of these lengths serve for k symbols?

@@ -4,10 +4,11 @@ use Prim.Native.Nat.{ℕ, _+_, _-_, _*_, _/_, _%_, _≤_, _<_, _∣_}
 use native.Mathlib.Nat.{mul-le-mul, dvd-mul-right, dvd-mul-right-of-dvd, div-add-mod, mod-lt, le-of-dvd}
 use native.Mathlib.Decide.{decLt}
 use native.Mathlib.Omega.{arith}
-use Rattle.numbers.proofs.Congruences.{cong-eq, cong-sym, cong-same, same-cong, cong-zero, zero-cong, cong-cancel, cong-add, cong-dvd, _⨾_}
+use Rattle.numbers.proofs.Congruences.{cong-eq, cong-sym, cong-mod, cong-mul, cong-times, cong-same, same-cong, cong-zero, zero-cong, cong-cancel, cong-add, cong-dvd, _⨾_}
+use Rattle.numbers.specs.Residues.{Respects}
 use Rattle.triples.specs.declared.Triple.{Triple}
 use Rattle.permuting.specs.Formulas.{Permutes}
-use Rattle.triples.specs.Shuffles.{f, quadratic}
+use Rattle.triples.specs.Shuffles.{triple, f, quadratic}
 
 -- f before the remainder
 abbrev pub sum : Triple → ℕ → ℕ
@@ -34,6 +35,15 @@ differ t x d e =
 pub agree : (t : Triple) (x d : ℕ) → t .k ∣ d * slope t x d → f t x ≡ f t (x + d)
 agree t x d h =
     cong-same (cong-eq {x = sum t x} {y = sum t x + 0} (omega arith) ⨾ cong-add {x = sum t x} (cong-eq refl) (cong-sym (zero-cong (d * slope t x d) h)) ⨾ cong-eq (sym (rise t x d)))
+
+-- modulo any number, what the sum is depends on the remainders of the position and of the coefficients alone
+pub sum-respects : (t : Triple) (m : ℕ) → Respects (sum t) m
+sum-respects t m x y e =
+    let c = same-cong x y e in cong-same (cong-add (cong-times (t .f1) c) (cong-times (t .f2) (cong-mul c c)))
+
+pub reduced : (m f1 f2 x : ℕ) → f (triple m (f1 % m) (f2 % m)) x ≡ f (triple m f1 f2) x
+reduced m f1 f2 x =
+    cong-same (cong-add (cong-mul (cong-sym (cong-mod m f1)) (cong-eq {x = x} refl)) (cong-mul (cong-sym (cong-mod m f2)) (cong-eq {x = x * x} refl)))
 
 -- f depends on the remainder of the position alone
 pub wrap : (t : Triple) (x : ℕ) → f t (x % t .k) ≡ f t x

@@ -1,0 +1,129 @@
+-- The least prime at which f fails to permute: one number fits, there is one unless f permutes, and how trial division comes to it.
+use mathlib.Core.Path.{_≡_, sym, ap, _∙_, subst}
+use mathlib.Core.Logic.{⊎-elim, by-cases}
+use mathlib.Core.Bool.{Bool}
+use Prim.Native.Nat.{ℕ, zero, suc, _+_, _*_, _%_, _≤_, _<_, _∣_}
+use native.Mathlib.Nat.{mod-lt, le-of-dvd, dvd-trans, mul-le-mul-right}
+use native.Mathlib.Decide.{ℕ-discrete, decLt, decDvd}
+use native.Mathlib.Omega.{arith}
+use Rattle.numbers.specs.Decision.{Decides}
+use Rattle.numbers.specs.PrimePowers.{FullPower}
+use Rattle.numbers.specs.Factors.{FirstFactor}
+use Rattle.numbers.specs.declared.factoring.Factor.{Factor}
+use Rattle.numbers.proofs.Divisors.{dvd-make, factors-pos}
+use Rattle.numbers.proofs.PrimePowers.{power-of, full-power-one}
+use Rattle.numbers.proofs.Factors.{Left, left-start, left-more, left-full, left-keeps, left-none, first-factor-of}
+use Rattle.numbers.proofs.Residues.{permutes-powers}
+use Rattle.permuting.specs.Formulas.{Permutes}
+use Rattle.permuting.proofs.Formulas.{permutes-stable}
+use Rattle.triples.specs.declared.Triple.{Triple}
+use Rattle.triples.specs.Shuffles.{triple, f, quadratic, InRange}
+use Rattle.triples.proofs.Values.{sum, sum-respects, reduced}
+use Rattle.explaining.specs.Reasons.{FailsAt, LeastFailing}
+use Rattle.explaining.proofs.Collisions.{collision-or-permutes, collision-fails}
+
+-- the quadratic of t, modulo m
+abbrev pub modulo : Triple → ℕ → Triple
+modulo t m = triple m (t .f1) (t .f2)
+
+-- ---- asked with the remainders of the coefficients
+
+pub reduced-decides : (t : Triple) (m : ℕ) {answer : Bool} → Decides (Permutes (quadratic (triple m (t .f1 % m) (t .f2 % m)))) answer
+    → Decides (Permutes (quadratic (modulo t m))) answer
+reduced-decides t m d =
+    record {
+      yes-only-if = λ e x y lx ly w. d .yes-only-if e x y lx ly (same x ∙ w ∙ sym (same y));
+      no-only-if = λ e permutes. d .no-only-if e (λ x y lx ly w. permutes x y lx ly (sym (same x) ∙ w ∙ same y));
+    }
+  where
+    same : (x : ℕ) → f (triple m (t .f1 % m) (t .f2 % m)) x ≡ f (modulo t m) x
+    same x = reduced m (t .f1) (t .f2) x
+
+pub reduced-range : (t : Triple) {m : ℕ} → 2 ≤ m → m ≤ 8192 → InRange (triple m (t .f1 % m) (t .f2 % m))
+reduced-range t low high =
+    record { low = low; high = high; first = mod-lt (t .f1) (omega arith); second = mod-lt (t .f2) (omega arith) }
+
+-- ---- a prime that fails
+
+-- it is to blame
+pub fails-not : {t : Triple} {p : ℕ} → 0 < t .k → FailsAt t p → ¬ Permutes (quadratic t)
+fails-not {t} {p} pos fails permutes =
+    fails .fails (permutes-powers (sum t) pos (λ m _. sum-respects t m) .0 permutes p (fails .power) (fails .full))
+
+-- where f permutes modulo the full power, the prime does not fail
+passes : {t : Triple} {p q : ℕ} → FullPower (t .k) p q → Permutes (quadratic (modulo t q)) → ¬ FailsAt t p
+passes {t} full permutes fails =
+    fails .fails (subst (λ (q : ℕ). Permutes (quadratic (modulo t q))) (full-power-one full (fails .full)) permutes)
+
+pub least-failing-one : {t : Triple} {p r : ℕ} → LeastFailing t p → LeastFailing t r → p ≡ r
+least-failing-one {t} {p} {r} a b = omega (arith, a .least r (b .fails), b .least p (a .fails))
+
+-- ---- one prime of K after the other
+
+-- the primes that are no longer in the rest do not fail
+abbrev pub Passed : Triple → ℕ → Type 0
+Passed t rest = Left (t .k) (λ p. ¬ FailsAt t p) rest
+
+-- so that something is left of a triple that is no shuffle
+some-left : {t : Triple} {rest : ℕ} → 0 < t .k → ¬ Permutes (quadratic t) → Passed t rest → 2 ≤ rest
+some-left {t} {rest} pos not left = by-cases (ℕ-discrete rest 1) (λ e. absurd (not (all e))) (λ ne. omega (arith, factors-pos (t .k) (left .gone) rest pos (sym (left .whole))))
+  where
+    all : rest ≡ 1 → Permutes (quadratic t)
+    all e =
+        permutes-powers (sum t) pos (λ m _. sum-respects t m) .1
+        (λ p q full. permutes-stable (quadratic (modulo t q)) (λ no. left-none left e (full .prime) (full .of) (record { power = q; full = full; fails = no })))
+
+module _ {t : Triple} {rest : ℕ} {r : Factor} (left : Passed t rest) (next : FirstFactor rest r) where
+  pub failing-found : ¬ Permutes (quadratic (modulo t (r .power))) → LeastFailing t (r .prime)
+  failing-found not =
+      record {
+        fails = record { power = r .power; full = left-full left next; fails = not };
+        least = λ p fails. by-cases (decDvd p rest) (next .least p (fails .full .prime .above-one))
+            (λ out. absurd (left-keeps left (fails .full .prime) (fails .full .of) out fails));
+      }
+
+  -- it goes on with less
+  pub failing-further : Permutes (quadratic (modulo t (r .power))) → Passed t (r .rest)
+  failing-further permutes = left-more left next (passes (left-full left next) permutes)
+
+-- the numbers of a factor
+pub record FactorRange (n : ℕ) (r : Factor) : Type 0 where
+  pub above-one : 1 < r .prime
+  pub prime : r .prime ≤ r .power
+  pub power : r .power ≤ n
+  pub rest : r .rest < n
+
+pub factor-range : {n : ℕ} {r : Factor} → 0 < n → FirstFactor n r → FactorRange n r
+factor-range {n} {r} pos next =
+    let parts = factors-pos n (r .power) (r .rest) pos (sym (next .whole)) in
+    let big : 1 < r .prime = next .full .prime .above-one in
+    let le : r .prime ≤ r .power = le-of-dvd (parts .0) (power-of (next .full)) in
+    let two : 2 ≤ r .power = omega arith in
+    record { above-one = big; prime = le; power = le-of-dvd pos (next .full .divides); rest = omega (arith, next .whole, mul-le-mul-right (r .rest) two) }
+
+pub passed-start : {t : Triple} → Passed t (t .k)
+passed-start = left-start
+
+pub passed-more : {t : Triple} {rest : ℕ} {r : Factor} → InRange t → ¬ Permutes (quadratic t) → Passed t rest → FirstFactor rest r
+    → Permutes (quadratic (modulo t (r .power))) → Passed t (r .rest) × (2 ≤ r .rest)
+passed-more range not left next permutes =
+    let further = failing-further left next permutes in (further, some-left (omega (arith, range .low)) not further)
+
+-- ---- there is one
+
+failing-in : (fuel : ℕ) {t : Triple} (rest : ℕ) → rest ≤ fuel → 2 ≤ rest → InRange t → ¬ Permutes (quadratic t) → Passed t rest → (p : ℕ) × LeastFailing t p
+failing-in zero rest le big range not left = absurd (omega arith)
+failing-in (suc fuel) {t} rest le big range not left = go (first-factor-of rest (omega arith)) (failing-in fuel {t = t})
+  where
+    go : (r : Factor) × FirstFactor rest r
+        → ((rest : ℕ) → rest ≤ fuel → 2 ≤ rest → InRange t → ¬ Permutes (quadratic t) → Passed t rest → (p : ℕ) × LeastFailing t p)
+        → (p : ℕ) × LeastFailing t p
+    go (r, next) further =
+        ⊎-elim (λ (y, x, address, c). (r .prime, failing-found left next (collision-fails (quadratic (modulo t (r .power))) c)))
+        (λ permutes.
+        let (more, some) = passed-more range not left next permutes in
+        further (r .rest) (omega (arith, factor-range (omega arith) next .rest)) some range not more)
+        (collision-or-permutes (quadratic (modulo t (r .power))))
+
+pub failing-exists : {t : Triple} → InRange t → ¬ Permutes (quadratic t) → (p : ℕ) × LeastFailing t p
+failing-exists {t} range not = failing-in (t .k) (t .k) (omega arith) (range .low) range not passed-start
