@@ -1,5 +1,6 @@
 //! The ask program: an answer for each line.
 
+use crate::explaining::explain;
 use crate::inverting::inverse;
 use crate::shuffle::*;
 use std::io::{self, Write};
@@ -126,6 +127,7 @@ impl<'a> Words<'a> {
         let name = self.next()?;
         match name {
             b"accept" => self.numbers(|t| vec![t.acceptance()]),
+            b"explain" => self.numbers(reason_of),
             b"address" => self.address(),
             b"reciprocal" => self.numbers(|t| [t.reciprocal().0, t.reciprocal().1].to_vec()),
             b"spread" => self.numbers(spread_of),
@@ -227,6 +229,11 @@ fn split_entry(entry: &[u8]) -> Option<(i64, u64)> {
         None => (1, value),
     };
     (is_size(digits) && is_size(count)).then(|| (sign * size(digits) as i64, size(count)))
+}
+
+fn reason_of(t: Triple) -> Vec<u32> {
+    let reason = explain(t);
+    vec![reason.number, reason.y, reason.x, reason.address, reason.prime]
 }
 
 fn spread_of(t: Triple) -> Vec<u32> {

@@ -1,7 +1,8 @@
 //! Writes expected output for the shuffle f(x) = (f1·x + f2·x²) mod K, straight from the definitions.
 //! Plain on purpose, and slow. Whether f permutes is seen from all its values; the reciprocal is found by
 //! trying every number below K, ARP's Q by trying the divisors of K upwards, the spread by trying s downwards
-//! (shuffle.rs); the inverse polynomial by linear algebra over the whole numbers (inverting.rs).
+//! (shuffle.rs); the inverse polynomial by linear algebra over the whole numbers (inverting.rs); why f does not
+//! permute by comparing positions, and by trying the primes of K upwards (explaining.rs).
 
 // Remainders are written out as in the definitions.
 #![allow(clippy::manual_is_multiple_of)]
@@ -10,6 +11,7 @@ mod ask;
 mod ask_input;
 mod card_input;
 mod cards;
+mod explaining;
 mod inverting;
 mod line;
 mod rows;

@@ -1,7 +1,7 @@
-//! The definitions, all but the inverse polynomial's: an answer is computed as it is written there, read off
-//! the list of all values, or found by trying the candidates in order.
+//! The definitions, all but those of the inverse polynomial and of the explanation: an answer is computed as it is
+//! written there, read off the list of all values, or found by trying the candidates in order.
 
-/// The scope's numbers of refusal.
+/// The numbers of refusal.
 pub const DONE: u32 = 0;
 pub const BAD_K: u32 = 1;
 pub const BAD_COEFFICIENT: u32 = 2;
@@ -10,6 +10,7 @@ pub const BAD_BLOCK: u32 = 4;
 pub const SHORT_SCRATCH: u32 = 5;
 pub const BAD_POSITION: u32 = 6;
 pub const SHORT_LIST: u32 = 7;
+pub const NOTHING_TO_EXPLAIN: u32 = 8;
 
 #[derive(Clone, Copy, Debug, PartialEq, Eq)]
 pub struct Triple {
@@ -23,7 +24,7 @@ impl Triple {
         Triple { k, f1, f2 }
     }
 
-    /// f(x). Asked only after tests 1 and 2 and for x below K, so 64 bits are wide enough.
+    /// f(x). Asked only for f1, f2 and x below 8192, so 64 bits are wide enough.
     pub fn f(self, x: u32) -> u32 {
         let (k, f1, f2, x) = (self.k as u64, self.f1 as u64, self.f2 as u64, x as u64);
         ((f1 * x + f2 * x * x) % k) as u32

@@ -1,5 +1,6 @@
-//! The scope's own cases, and the inverse against all polynomials where they can be listed.
+//! Worked cases, and the inverse against all polynomials where they can be listed.
 
+use crate::explaining::{explain, Reason};
 use crate::inverting::{coefficient_limit, evaluate, inverse};
 use crate::rows::standard_rows;
 use crate::shuffle::*;
@@ -41,6 +42,33 @@ fn acceptance_cases() {
     assert_eq!(t(1, 0, 0).acceptance(), BAD_K);
     assert_eq!(t(8193, 1, 2).acceptance(), BAD_K);
     assert_eq!(t(5, 5, 0).acceptance(), BAD_COEFFICIENT);
+}
+
+#[test]
+fn explain_cases() {
+    let cases = [
+        (t(8, 2, 4), [4, 0, 0, 2]),
+        (t(4, 0, 1), [2, 0, 0, 2]), // modulo 2 it permutes, modulo 4 it does not
+        (t(4, 1, 1), [2, 1, 2, 2]),
+        (t(30, 1, 6), [10, 4, 10, 5]),
+        (t(36, 5, 4), [7, 3, 15, 3]),
+        (t(45, 2, 3), [10, 1, 5, 5]),
+        (t(8191, 1, 1), [4096, 4094, 6144, 8191]),
+    ];
+    for (triple, [y, x, address, prime]) in cases {
+        assert_eq!(explain(triple), Reason { number: DONE, y, x, address, prime });
+    }
+    let refused = [
+        (t(60, 7, 30), NOTHING_TO_EXPLAIN),
+        (t(8192, 1, 2), NOTHING_TO_EXPLAIN),
+        (t(1, 0, 0), BAD_K),
+        (t(8193, 1, 1), BAD_K),
+        (t(4, 4, 1), BAD_COEFFICIENT),
+        (t(4, 1, 4), BAD_COEFFICIENT),
+    ];
+    for (triple, number) in refused {
+        assert_eq!(explain(triple), Reason { number, y: 0, x: 0, address: 0, prime: 0 });
+    }
 }
 
 #[test]
@@ -152,6 +180,8 @@ fn answers(input: &[u8]) -> Vec<String> {
 fn sample_answers() {
     let cases = [
         ("accept 40 3 10", "0"),
+        ("explain 30 1 6", "0 10 4 10 5"),
+        ("explain 60 7 30", "8 0 0 0 0"),
         ("address 40 3 10 7", "0 31"),
         ("reciprocal 40 3 10", "0 27"),
         ("spread 40 3 10", "0 3"),
