@@ -3,6 +3,7 @@
 use crate::rows::standard_rows;
 use crate::shuffle::{start, step, Triple, DONE};
 use std::io::{self, Write};
+use std::ops::RangeInclusive;
 
 pub fn write(out: &mut impl Write) -> io::Result<()> {
     let mut lines = Lines(Vec::new());
@@ -12,6 +13,7 @@ pub fn write(out: &mut impl Write) -> io::Result<()> {
     lines.blocks();
     lines.inverses();
     lines.forms();
+    lines.reasons();
     lines.language();
     // The last one has no newline.
     out.write_all(&lines.0.join(&b'\n'))
@@ -40,13 +42,43 @@ const MOVERS: [(&str, bool); 4] = [
     ("deinterleave_i16", true),
 ];
 
-fn all_triples(lengths: std::ops::RangeInclusive<u32>) -> Vec<Triple> {
-    let pairs = |k: u32| (0..k).flat_map(move |f1| (0..k).map(move |f2| Triple::new(k, f1, f2)));
+/// The worked cases of `explain`.
+const EXPLAINED: [(u32, u32, u32); 8] =
+    [(8, 2, 4), (4, 0, 1), (4, 1, 1), (30, 1, 6), (36, 5, 4), (45, 2, 3), (8191, 1, 1), (60, 7, 30)];
+
+/// Long ones, with many primes or few, at the first power or at a higher one.
+const FACTORED: [u32; 10] = [2310, 4620, 6561, 6930, 8186, 8187, 8188, 8189, 8191, 8192];
+
+/// All triples with coefficients below K + `past`.
+fn triples_past(lengths: RangeInclusive<u32>, past: u32) -> Vec<Triple> {
+    let pairs =
+        |k: u32| (0..k + past).flat_map(move |f1| (0..k + past).map(move |f2| Triple::new(k, f1, f2)));
     lengths.flat_map(pairs).collect()
 }
 
+fn all_triples(lengths: RangeInclusive<u32>) -> Vec<Triple> {
+    triples_past(lengths, 0)
+}
+
+fn edge_triples() -> Vec<Triple> {
+    let pairs = |k: u32| EDGES.into_iter().flat_map(move |f1| EDGES.map(|f2| Triple::new(k, f1, f2)));
+    [0, 1, 2, 8192, 8193, u32::MAX].into_iter().flat_map(pairs).collect()
+}
+
+fn listed(list: &[(u32, u32, u32)]) -> Vec<Triple> {
+    list.iter().map(|&(k, f1, f2)| Triple::new(k, f1, f2)).collect()
+}
+
 fn chosen() -> Vec<Triple> {
-    CHOSEN.map(|(k, f1, f2)| Triple::new(k, f1, f2)).to_vec()
+    listed(&CHOSEN)
+}
+
+/// With f1 = 1 an odd prime fails exactly where it does not divide f2, with f2 = 0 exactly where it divides f1: so
+/// over all divisors every set of odd primes fails. With f1 = 2 and f2 odd, f permutes modulo 2 and not modulo 4.
+fn factored() -> Vec<Triple> {
+    let divisors = |k: u32| (1..k).filter(move |d| k % d == 0);
+    let of_divisor = |k, d| [(1, d), (1, k - d), (2, d), (d, 0)].map(|(f1, f2)| Triple::new(k, f1, f2));
+    FACTORED.into_iter().flat_map(|k| divisors(k).flat_map(move |d| of_divisor(k, d))).collect()
 }
 
 /// The symbols of a short block again and again, in numbers.
@@ -83,21 +115,12 @@ impl Lines {
 
     /// Each coefficient at K as well; every position of a shuffle and the one past the last.
     fn triples(&mut self) {
-        for k in 1..=24 {
-            for f1 in 0..=k {
-                for f2 in 0..=k {
-                    let t = Triple::new(k, f1, f2);
-                    let positions = if t.acceptance() == DONE { (0..=k).collect() } else { vec![0, k] };
-                    self.triple(t, &positions);
-                }
-            }
+        for t in triples_past(1..=24, 1) {
+            let positions = if t.acceptance() == DONE { (0..=t.k).collect() } else { vec![0, t.k] };
+            self.triple(t, &positions);
         }
-        for k in [0, 1, 2, 8192, 8193, u32::MAX] {
-            for f1 in EDGES {
-                for f2 in EDGES {
-                    self.triple(Triple::new(k, f1, f2), &EDGES);
-                }
-            }
+        for t in edge_triples() {
+            self.triple(t, &EDGES);
         }
         for t in chosen() {
             self.triple(t, &[0, 1, 8, 9, 1503, 6015, 8191, 8192]);
@@ -185,6 +208,14 @@ impl Lines {
         }
     }
 
+    /// Each coefficient at K and one above as well; and shuffles, which have nothing to explain.
+    fn reasons(&mut self) {
+        let long = edge_triples().into_iter().chain(factored()).chain(standard_rows());
+        for t in triples_past(0..=40, 2).into_iter().chain(listed(&EXPLAINED)).chain(long) {
+            self.call("explain", t);
+        }
+    }
+
     /// The forms of words and lists, good ones and bad ones, and both sides of each limit.
     fn language(&mut self) {
         for line in WORDS {
@@ -266,6 +297,12 @@ const WORDS: &[&str] = &[
     "accept 99999999999999999999999999999999999999999999999x 3 10",
     "accept x99999999999999999999999999999999999999999999999 3 10",
     "accept 4294967296 x 3 10 7 7",
+    "explain",
+    "explain 30 1",
+    "explain 30 1 6 10",
+    "explain 30 1 six",
+    "explai 30 1 6",
+    "explains 30 1 6",
     "reciprocal 40 3",
     "reciprocal 40 3 10 10",
     "spread 40 3 ten",
