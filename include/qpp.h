@@ -7,7 +7,8 @@
  * What C must keep: n counts the entries or symbols of a buffer, and m the bytes of a scratch; each pointer is good for
  * its length; the block and the scratch of one call do not overlap. A buffer of length 0 may be NULL: no call reads or
  * writes through it, and each refuses it by its number (4 for a block, 5 for a scratch, 7 for a list) unless an earlier
- * test refuses. qpp_spread takes 16 KiB of stack, every other call less than half a kilobyte.
+ * test refuses. qpp_spread takes 16 KiB of stack, qpp_explain a little over 1 KiB, every other call less than half a
+ * kilobyte.
  *
  * The odd form of a triple: where K and f1 are even, K/2 is added to f1 and to f2 modulo K. f stays the same.
  */
@@ -23,17 +24,26 @@ extern "C" {
 
 /* The numbers of refusal, in the order of their tests. */
 #define QPP_DONE 0u
-#define QPP_NO_LENGTH 1u      /* K below 2 or above 8192 */
-#define QPP_NO_COEFFICIENT 2u /* f1 >= K or f2 >= K */
-#define QPP_NO_SHUFFLE 3u     /* f does not permute the positions */
-#define QPP_NO_BLOCK 4u       /* the block's length is not K */
-#define QPP_NO_SCRATCH 5u     /* the scratch is shorter than K/8 bytes, rounded up */
-#define QPP_NO_POSITION 6u    /* the position is K or more */
-#define QPP_NO_LIST 7u        /* the list is shorter than K entries, or than Q for ARP shifts */
+#define QPP_NO_LENGTH 1u          /* K below 2 or above 8192 */
+#define QPP_NO_COEFFICIENT 2u     /* f1 >= K or f2 >= K */
+#define QPP_NO_SHUFFLE 3u         /* f does not permute the positions */
+#define QPP_NO_BLOCK 4u           /* the block's length is not K */
+#define QPP_NO_SCRATCH 5u         /* the scratch is shorter than K/8 bytes, rounded up */
+#define QPP_NO_POSITION 6u        /* the position is K or more */
+#define QPP_NO_LIST 7u            /* the list is shorter than K entries, or than Q for ARP shifts */
+#define QPP_NOTHING_TO_EXPLAIN 8u /* f permutes the positions */
 
 struct qpp_value {
     uint32_t number;
     uint32_t value;
+};
+
+struct qpp_reason {
+    uint32_t number;
+    uint32_t y;
+    uint32_t x;
+    uint32_t address;
+    uint32_t prime;
 };
 
 /* a[0] is a1; the places past the degree are zero. */
@@ -69,6 +79,13 @@ struct qpp_step {
 
 /* Is the triple a shuffle? 0, 1, 2 or 3. */
 uint32_t qpp_accept(uint32_t k, uint32_t f1, uint32_t f2);
+
+/*
+ * Why a triple in range is no shuffle: y is the smallest position whose address an earlier position, x, has too, and
+ * address the one they share; prime is the least prime of K such that the quadratic does not permute modulo the largest
+ * power of that prime that divides K. Refusals 1, 2, 8.
+ */
+struct qpp_reason qpp_explain(uint32_t k, uint32_t f1, uint32_t f2);
 
 /* The address f(x) of the position x. Refusals 1, 2, 3, 6. */
 struct qpp_value qpp_address(uint32_t k, uint32_t f1, uint32_t f2, uint32_t x);
