@@ -11,13 +11,20 @@ static bool same_walker(struct qpp_walker a, struct qpp_walker b) {
     return a.k == b.k && a.f1 == b.f1 && a.f2 == b.f2 && a.at == b.at;
 }
 
-/* With buffers that fit, every call that judges the triple gives this number, and zeros beside a refusal. */
+static bool same_reason(struct qpp_reason a, struct qpp_reason b) { return memcmp(&a, &b, sizeof a) == 0; }
+
+/*
+ * With buffers that fit, every call that judges the triple gives this number, and zeros beside a refusal. What is
+ * refused by 3 is explained, and what is accepted leaves nothing to explain.
+ */
 static void every_call(uint32_t k, uint32_t f1, uint32_t f2, uint32_t number) {
     struct triple t = {k, f1, f2};
     const struct qpp_walker none = {0, 0, 0, 0};
     const uint32_t zeros[13] = {0};
     size_t n = k <= 8192 ? k : 8192;
     CHECK(qpp_accept(k, f1, f2) == number);
+    struct qpp_reason unexplained = {number == 0 ? 8 : number, 0, 0, 0, 0};
+    CHECK(same_reason(qpp_explain(k, f1, f2), number == 3 ? model_explain(t) : unexplained));
     struct qpp_value address = qpp_address(k, f1, f2, 0);
     CHECK(address.number == number && address.value == 0); /* f(0) = 0 */
     struct qpp_value reciprocal = qpp_reciprocal(k, f1, f2);
@@ -91,6 +98,33 @@ static void judging(void) {
     };
     for (size_t i = 0; i < sizeof cases / sizeof *cases; i++)
         every_call(cases[i][0], cases[i][1], cases[i][2], cases[i][3]);
+}
+
+static void reasons(void) {
+    static const struct {
+        struct triple t;
+        struct qpp_reason reason;
+    } cases[] = {
+        {{8, 2, 4}, {0, 4, 0, 0, 2}},
+        {{4, 0, 1}, {0, 2, 0, 0, 2}}, /* modulo 2 it permutes, modulo 4 it does not */
+        {{4, 1, 1}, {0, 2, 1, 2, 2}},
+        {{30, 1, 6}, {0, 10, 4, 10, 5}},
+        {{36, 5, 4}, {0, 7, 3, 15, 3}},
+        {{45, 2, 3}, {0, 10, 1, 5, 5}},
+        {{8191, 1, 1}, {0, 4096, 4094, 6144, 8191}},
+        {{60, 7, 30}, {8, 0, 0, 0, 0}},
+    };
+    for (size_t i = 0; i < sizeof cases / sizeof *cases; i++) {
+        struct triple t = cases[i].t;
+        CHECK(same_reason(qpp_explain(t.k, t.f1, t.f2), cases[i].reason));
+        CHECK(same_reason(model_explain(t), cases[i].reason));
+    }
+    for (uint32_t k = 0; k <= 64; k++) /* in range and out of it */
+        for (uint32_t f1 = 0; f1 < k + 2; f1++)
+            for (uint32_t f2 = 0; f2 < k + 2; f2++) {
+                struct triple t = {k, f1, f2};
+                CHECK(same_reason(qpp_explain(k, f1, f2), model_explain(t)));
+            }
 }
 
 static void inverses(void) {
@@ -279,6 +313,7 @@ static void nothing_lent(void) {
 
 void test_calls(void) {
     judging();
+    reasons();
     inverses();
     printed_inverse();
     values();

@@ -5,6 +5,10 @@
 /* The layout that a caller in another language relies on. */
 _Static_assert(sizeof(struct qpp_value) == 8, "number, value");
 _Static_assert(offsetof(struct qpp_value, value) == 4, "value");
+_Static_assert(sizeof(struct qpp_reason) == 20, "number, y, x, address, prime");
+_Static_assert(offsetof(struct qpp_reason, y) == 4 && offsetof(struct qpp_reason, x) == 8, "y, x");
+_Static_assert(offsetof(struct qpp_reason, address) == 12, "address");
+_Static_assert(offsetof(struct qpp_reason, prime) == 16, "prime");
 _Static_assert(sizeof(struct qpp_inverse) == 60, "number, degree, thirteen places");
 _Static_assert(offsetof(struct qpp_inverse, degree) == 4, "degree");
 _Static_assert(offsetof(struct qpp_inverse, a) == 8, "a1");

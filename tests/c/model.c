@@ -40,6 +40,40 @@ uint32_t model_accept(struct triple t) {
     return number;
 }
 
+static bool is_prime(uint32_t n) {
+    for (uint32_t d = 2; d < n; d++)
+        if (n % d == 0)
+            return false;
+    return n >= 2;
+}
+
+/* The power of p that divides k while the next does not; p divides k. */
+static uint32_t full_power(uint32_t k, uint32_t p) {
+    uint32_t power = p;
+    while (k % (power * p) == 0)
+        power *= p;
+    return power;
+}
+
+static bool fails_at(struct triple t, uint32_t p) {
+    return t.k % p == 0 && is_prime(p) && !permutes((struct triple){full_power(t.k, p), t.f1, t.f2});
+}
+
+/* From the first position of each address: y is the smallest that is not the first of its own. */
+struct qpp_reason model_explain(struct triple t) {
+    static uint32_t first[LONGEST];
+    uint32_t number = model_accept(t), y = 0, prime = 2;
+    if (number != 3)
+        return (struct qpp_reason){number == 0 ? 8 : number, 0, 0, 0, 0};
+    for (uint32_t x = t.k; x-- > 0;)
+        first[model_f(t, x)] = x;
+    while (first[model_f(t, y)] == y)
+        y++;
+    while (!fails_at(t, prime))
+        prime++;
+    return (struct qpp_reason){0, y, first[model_f(t, y)], model_f(t, y), prime};
+}
+
 struct qpp_value model_address(struct triple t, uint32_t x) {
     struct qpp_value r = {model_accept(t), 0};
     if (r.number == 0 && x >= t.k)

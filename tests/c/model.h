@@ -1,6 +1,7 @@
 /*
- * A plain model of every call, from the definitions: acceptance marks every position, the reciprocal is searched for, the
- * inverse is tried at every address, blocks are moved out of place. It shares no code with the library.
+ * A plain model of every call, from the definitions: acceptance marks every position, the explanation lists the first
+ * position of each address, the reciprocal is searched for, the inverse is tried at every address, blocks are moved out
+ * of place. It shares no code with the library.
  */
 #ifndef MODEL_H
 #define MODEL_H
@@ -12,6 +13,7 @@ enum direction { INTERLEAVE, DEINTERLEAVE };
 
 uint32_t model_f(struct triple t, uint32_t x);
 uint32_t model_accept(struct triple t);
+struct qpp_reason model_explain(struct triple t);
 struct qpp_value model_address(struct triple t, uint32_t x);
 struct qpp_value model_reciprocal(struct triple t);
 struct qpp_value model_spread(struct triple t); /* slow: K times the square of the spread */

@@ -20,10 +20,21 @@ static uint32_t radical(uint32_t k) {
     return product;
 }
 
-/* A triple that has a fair chance to be a shuffle: f2 is a multiple of every prime of K. */
-static struct triple likely(uint32_t k) {
-    uint32_t step = radical(k);
+/* f2 is a multiple of the step, which divides K. */
+static struct triple with_step(uint32_t k, uint32_t step) {
     return (struct triple){k, below(k), step * below(k / step)};
+}
+
+/* A triple that has a fair chance to be a shuffle: f2 is a multiple of every prime of K. */
+static struct triple likely(uint32_t k) { return with_step(k, radical(k)); }
+
+/* The same but for one prime of K, of which f2 need not be a multiple: so it may be the only one that fails. */
+static struct triple lacking(uint32_t longest) {
+    static const uint32_t primes[] = {2, 3, 5, 7, 11, 13};
+    uint32_t p = primes[below(6)], k = longest - longest % p, others = k;
+    while (others % p == 0)
+        others /= p;
+    return with_step(k, radical(others));
 }
 
 /* A number at or near a limit. */
@@ -52,8 +63,9 @@ static struct triple draw(void) {
             return likely(64 + below(200));
         return likely(8192 - below(6000));
     case 5:
-    case 6:
         return (struct triple){k, below(k), below(k)};
+    case 6:
+        return lacking(below(100) ? 64 + below(200) : 8192 - below(6000));
     case 7:
         return (struct triple){1u << (1 + below(7)), below(128), below(128)};
     default:
@@ -76,6 +88,11 @@ static void numbers(struct triple t) {
     struct qpp_value reciprocal = qpp_reciprocal(t.k, t.f1, t.f2);
     model = model_reciprocal(t);
     CHECK(reciprocal.number == model.number && reciprocal.value == model.value);
+}
+
+static void explaining(struct triple t) {
+    struct qpp_reason reason = qpp_explain(t.k, t.f1, t.f2), model = model_explain(t);
+    CHECK(memcmp(&reason, &model, sizeof reason) == 0);
 }
 
 static void walking(struct triple t) {
@@ -115,6 +132,7 @@ void test_random(void) {
     for (uint32_t i = 0; i < INPUTS; i++) {
         struct triple t = draw();
         numbers(t);
+        explaining(t);
         walking(t);
         lending(t);
         inverse_and_spread(t);

@@ -11,6 +11,16 @@ mod c {
 
     #[repr(C)]
     #[derive(Clone, Copy)]
+    pub struct Reason {
+        pub number: u32,
+        pub y: u32,
+        pub x: u32,
+        pub address: u32,
+        pub prime: u32,
+    }
+
+    #[repr(C)]
+    #[derive(Clone, Copy)]
     pub struct Inverse {
         pub number: u32,
         pub degree: u32,
@@ -51,6 +61,7 @@ mod c {
 
     extern "C" {
         pub fn qpp_accept(k: u32, f1: u32, f2: u32) -> u32;
+        pub fn qpp_explain(k: u32, f1: u32, f2: u32) -> Reason;
         pub fn qpp_address(k: u32, f1: u32, f2: u32, x: u32) -> Value;
         pub fn qpp_reciprocal(k: u32, f1: u32, f2: u32) -> Value;
         pub fn qpp_spread(k: u32, f1: u32, f2: u32) -> Value;
@@ -88,6 +99,12 @@ type Mover<T> = unsafe extern "C" fn(u32, u32, u32, *mut T, usize, *mut u8, usiz
 impl Shuffle {
     fn accept(self) -> Result<(), Refused> {
         answer(unsafe { c::qpp_accept(self.0, self.1, self.2) }, ())
+    }
+
+    /// y, x, the address they share, and the prime.
+    fn explain(self) -> Result<(u32, u32, u32, u32), Refused> {
+        let r = unsafe { c::qpp_explain(self.0, self.1, self.2) };
+        answer(r.number, (r.y, r.x, r.address, r.prime))
     }
 
     fn address(self, x: u32) -> Result<u32, Refused> {
@@ -168,6 +185,9 @@ fn main() {
     assert_eq!(list[..2], [0, 10]);
     assert_eq!(Shuffle(6016, 23, 94).inverse(), Ok(vec![1831, 2350, 1880, 376]));
 
+    assert_eq!(Shuffle(30, 1, 6).explain(), Ok((10, 4, 10, 5)));
+    assert_eq!(Shuffle(8191, 1, 1).explain(), Ok((4096, 4094, 6144, 8191)));
+
     // a walk, the list and the addresses one by one agree
     small.addresses(&mut list).unwrap();
     let walked: Vec<u32> = small.walk().unwrap().take(80).collect();
@@ -186,6 +206,7 @@ fn main() {
     assert_eq!(small.moved(c::qpp_interleave_u8, &mut [0; 40], &mut [0; 4]), Err(Refused(5)));
     assert_eq!(small.address(40), Err(Refused(6)));
     assert_eq!(small.addresses(&mut list[..39]), Err(Refused(7)));
+    assert_eq!(small.explain(), Err(Refused(8)));
     assert_eq!(Walk(c::Walker { k: 40, f1: 3, f2: 10, at: 40 }).next(), None);
     println!("rust: all checks passed");
 }
