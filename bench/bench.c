@@ -55,6 +55,16 @@ NUMBER(our_accept, qpp_accept)
 NUMBER(plain_accept, plain_accept)
 NUMBER(marking, plain_accept_marking)
 
+#define REASON(NAME, CALL)                                                \
+    static void drive_##NAME(const struct row *r) {                       \
+        struct qpp_reason v = CALL(r->k, r->f1, r->f2);                   \
+        answer.number = v.number, answer.degree = v.y, answer.a[0] = v.x; \
+        answer.a[1] = v.address, answer.a[2] = v.prime;                   \
+    }
+REASON(our_explain, qpp_explain)
+REASON(plain_explain, plain_explain)
+REASON(explain_table, plain_explain_table)
+
 #define VALUE(NAME, CALL)                                  \
     static void drive_##NAME(const struct row *r) {        \
         struct qpp_value v = CALL;                         \
@@ -112,6 +122,11 @@ NUMBER(loop, plain_loop)
     {TEXT, AGAINST, 40, 3, 10, drive_our_##NAME, drive_##THEIRS}, {     \
         TEXT, AGAINST, 6144, 263, 480, drive_our_##NAME, drive_##THEIRS \
     }
+/* A pair of positions that is found at once, and one that takes about as long as any. */
+#define REASON_ROWS(AGAINST, THEIRS)                                           \
+    {"explain", AGAINST, 6144, 263, 481, drive_our_explain, drive_##THEIRS}, { \
+        "explain", AGAINST, 8191, 1, 1, drive_our_explain, drive_##THEIRS      \
+    }
 
 static const struct row rows[] = {
     SIZE_ROWS(40, 3, 10),
@@ -120,6 +135,8 @@ static const struct row rows[] = {
     SIZE_ROWS(8192, 1, 2),
     ROWS("accept", accept, "marking every position", marking),
     ROWS("accept", accept, "the same in C", plain_accept),
+    REASON_ROWS("the same in C", plain_explain),
+    REASON_ROWS("table of positions", explain_table),
     ROWS("address", address, "the same in C", plain_address),
     ROWS("reciprocal", reciprocal, "the same in C", plain_reciprocal),
     ROWS("inverse", inverse, "the same in C", plain_inverse),

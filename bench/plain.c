@@ -66,6 +66,73 @@ uint32_t plain_accept_marking(uint32_t k, uint32_t f1, uint32_t f2) {
     return QPP_DONE;
 }
 
+static inline void mark(uint8_t *s, size_t i) { s[i / 8] |= (uint8_t)(1 << i % 8); }
+static inline bool marked(const uint8_t *s, size_t i) { return s[i / 8] >> i % 8 & 1; }
+
+/* n modulo k, for n below 2*k */
+static inline uint32_t reduced(uint32_t n, uint32_t k) { return n < k ? n : n - k; }
+
+/* The addresses in a row, each from the one before by two sums. */
+struct walk {
+    uint32_t address, rise, twice;
+};
+
+static inline struct walk walk_start(uint32_t k, uint32_t f1, uint32_t f2) {
+    return (struct walk){0, reduced(f1 + f2, k), reduced(2 * f2, k)};
+}
+
+static inline struct walk walk_on(struct walk w, uint32_t k) {
+    return (struct walk){reduced(w.address + w.rise, k), reduced(w.rise + w.twice, k), w.twice};
+}
+
+/* The least prime at whose full power a refused triple fails. The last is not tried: it fails if no other does. */
+static inline uint32_t failing_prime(uint32_t k, uint32_t f1, uint32_t f2) {
+    uint32_t rest = k;
+    for (uint32_t p = 2; p * p <= rest; p += p == 2 ? 1 : 2) {
+        uint32_t power = 1;
+        for (; rest % p == 0; rest /= p)
+            power *= p;
+        if (power > 1 && judge(power, f1 % power, f2 % power) != QPP_DONE)
+            return p;
+    }
+    return rest;
+}
+
+static inline struct qpp_reason unexplained(uint32_t number) {
+    return (struct qpp_reason){number == QPP_DONE ? QPP_NOTHING_TO_EXPLAIN : number, 0, 0, 0, 0};
+}
+
+/* A bit marks each address that was met; the position that had the one met again is found by another walk. */
+struct qpp_reason plain_explain(uint32_t k, uint32_t f1, uint32_t f2) {
+    uint8_t met[1024];
+    uint32_t number = judge(k, f1, f2), y = 0, x = 0;
+    if (number != QPP_NO_SHUFFLE)
+        return unexplained(number);
+    memset(met, 0, (k + 7) / 8);
+    struct walk later = walk_start(k, f1, f2), earlier = later;
+    for (; !marked(met, later.address); y++) {
+        mark(met, later.address);
+        later = walk_on(later, k);
+    }
+    for (; earlier.address != later.address; x++)
+        earlier = walk_on(earlier, k);
+    return (struct qpp_reason){QPP_DONE, y, x, later.address, failing_prime(k, f1, f2)};
+}
+
+struct qpp_reason plain_explain_table(uint32_t k, uint32_t f1, uint32_t f2) {
+    uint16_t position[8192];
+    uint32_t number = judge(k, f1, f2), y = 0;
+    if (number != QPP_NO_SHUFFLE)
+        return unexplained(number);
+    memset(position, 0xff, k * sizeof *position);
+    struct walk w = walk_start(k, f1, f2);
+    for (; position[w.address] == UINT16_MAX; y++) {
+        position[w.address] = (uint16_t)y;
+        w = walk_on(w, k);
+    }
+    return (struct qpp_reason){QPP_DONE, y, position[w.address], w.address, failing_prime(k, f1, f2)};
+}
+
 struct qpp_value plain_address(uint32_t k, uint32_t f1, uint32_t f2, uint32_t x) {
     uint32_t number = judge(k, f1, f2);
     if (number == QPP_DONE && x >= k)
@@ -96,16 +163,9 @@ struct qpp_value plain_reciprocal(uint32_t k, uint32_t f1, uint32_t f2) {
 }
 
 static inline void fill(uint32_t k, uint32_t f1, uint32_t f2, uint16_t *list, uint32_t n) {
-    uint32_t value = 0, rise = f1 + f2, twice = 2 * f2;
-    rise -= rise < k ? 0 : k;
-    twice -= twice < k ? 0 : k;
-    for (uint32_t x = 0; x < n; x++) {
-        list[x] = (uint16_t)value;
-        value += rise;
-        value -= value < k ? 0 : k;
-        rise += twice;
-        rise -= rise < k ? 0 : k;
-    }
+    struct walk w = walk_start(k, f1, f2);
+    for (uint32_t x = 0; x < n; x++, w = walk_on(w, k))
+        list[x] = (uint16_t)w.address;
 }
 
 uint32_t plain_addresses(uint32_t k, uint32_t f1, uint32_t f2, uint16_t *list, size_t n) {
@@ -222,9 +282,6 @@ static inline uint32_t movable(uint32_t k, uint32_t f1, uint32_t f2, size_t n, s
         return QPP_NO_SCRATCH;
     return QPP_DONE;
 }
-
-static inline void mark(uint8_t *s, size_t i) { s[i / 8] |= (uint8_t)(1 << i % 8); }
-static inline bool marked(const uint8_t *s, size_t i) { return s[i / 8] >> i % 8 & 1; }
 
 /* The first place from i on that has no mark; n or more if there is none. */
 static inline size_t next_free(const uint8_t *s, size_t i, size_t n) {

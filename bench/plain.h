@@ -6,6 +6,8 @@
 
 uint32_t plain_accept(uint32_t k, uint32_t f1, uint32_t f2);
 uint32_t plain_accept_marking(uint32_t k, uint32_t f1, uint32_t f2); /* marks every position */
+struct qpp_reason plain_explain(uint32_t k, uint32_t f1, uint32_t f2);
+struct qpp_reason plain_explain_table(uint32_t k, uint32_t f1, uint32_t f2); /* one walk, and 16 KiB of positions */
 struct qpp_value plain_address(uint32_t k, uint32_t f1, uint32_t f2, uint32_t x);
 struct qpp_value plain_reciprocal(uint32_t k, uint32_t f1, uint32_t f2);
 struct qpp_value plain_spread(uint32_t k, uint32_t f1, uint32_t f2);
