@@ -6,12 +6,12 @@ use mathlib.Core.Bool.{Bool, true, false}
 use Prim.Native.Nat.{ℕ, _+_, _*_, _≤_, _<_}
 use native.Mathlib.Decide.{ℕ-discrete, decLt}
 use native.Mathlib.Omega.{arith}
-use lib.ListN.{length, getD}
+use lib.ListN.{length}
 use Rattle.numbers.proofs.Computation.{First, first-or-none}
 use Rattle.permuting.specs.Formulas.{Formula, Permutes}
 use Rattle.permuting.specs.Bitmap.{marks, Stands, Marked}
 use Rattle.permuting.proofs.Bitmap.{length-marks, marked-length}
-use Rattle.permuting.proofs.Cycles.{Seen, Unseen, clash, seen-now, seen-still, seen-how}
+use Rattle.permuting.proofs.Cycles.{Seen, clash, seen-now, seen-still, seen-how}
 use Rattle.explaining.specs.Reasons.{FirstCollision}
 use Rattle.explaining.specs.Searches.{Unmarked, Met, Earliest}
 

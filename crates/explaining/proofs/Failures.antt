@@ -1,16 +1,16 @@
 -- The least prime at which f fails to permute: one number fits, there is one unless f permutes, and how trial division comes to it.
-use mathlib.Core.Path.{_≡_, sym, ap, _∙_, subst}
+use mathlib.Core.Path.{_≡_, sym, _∙_, subst}
 use mathlib.Core.Logic.{⊎-elim, by-cases}
 use mathlib.Core.Bool.{Bool}
-use Prim.Native.Nat.{ℕ, zero, suc, _+_, _*_, _%_, _≤_, _<_, _∣_}
-use native.Mathlib.Nat.{mod-lt, le-of-dvd, dvd-trans, mul-le-mul-right}
-use native.Mathlib.Decide.{ℕ-discrete, decLt, decDvd}
+use Prim.Native.Nat.{ℕ, zero, suc, _%_, _≤_, _<_}
+use native.Mathlib.Nat.{mod-lt, le-of-dvd, mul-le-mul-right}
+use native.Mathlib.Decide.{ℕ-discrete, decDvd}
 use native.Mathlib.Omega.{arith}
 use Rattle.numbers.specs.Decision.{Decides}
 use Rattle.numbers.specs.PrimePowers.{FullPower}
 use Rattle.numbers.specs.Factors.{FirstFactor}
 use Rattle.numbers.specs.declared.factoring.Factor.{Factor}
-use Rattle.numbers.proofs.Divisors.{dvd-make, factors-pos}
+use Rattle.numbers.proofs.Divisors.{factors-pos}
 use Rattle.numbers.proofs.PrimePowers.{power-of, full-power-one}
 use Rattle.numbers.proofs.Factors.{Left, left-start, left-more, left-full, left-keeps, left-none, first-factor-of}
 use Rattle.numbers.proofs.Residues.{permutes-powers}

@@ -1,5 +1,5 @@
 -- The map of a triple that is no shuffle can be searched, and the collision that is found is the triple's.
-use mathlib.Core.Path.{_≡_, sym, ap, _∙_}
+use mathlib.Core.Path.{sym, ap, _∙_}
 use mathlib.Core.Bool.{false}
 use mathlib.Core.List.{List, [], append-nil}
 use Prim.Native.Nat.{ℕ, _*_, _≤_, _<_}

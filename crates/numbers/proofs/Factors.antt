@@ -1,16 +1,16 @@
 -- Trial division: how the least prime of a number is found, how its full power is divided out, and what is known of the primes that are
 -- no longer in what is left.
-use mathlib.Core.Path.{_≡_, refl, sym, ap, _∙_, subst}
+use mathlib.Core.Path.{_≡_, sym, ap, _∙_, subst}
 use mathlib.Core.Logic.{_≢_, ⊎-elim, by-cases}
-use Prim.Native.Nat.{ℕ, suc, _+_, _*_, _/_, _%_, _^_, _≤_, _<_, _∣_}
-use native.Mathlib.Nat.{dvd-refl, dvd-trans, dvd-of-mul-dvd-mul-right, dvd-of-mod-eq-zero, mod-eq-zero-of-dvd, pos-of-dvd-of-pos, le-of-dvd, one-mul, mul-comm, mul-assoc, mul-le-mul, pow-zero, pow-suc, eq-one-of-dvd-one, div-mul-cancel}
+use Prim.Native.Nat.{ℕ, suc, _*_, _/_, _%_, _^_, _≤_, _<_, _∣_}
+use native.Mathlib.Nat.{dvd-refl, dvd-trans, dvd-of-mul-dvd-mul-right, mod-eq-zero-of-dvd, pos-of-dvd-of-pos, le-of-dvd, one-mul, mul-comm, mul-assoc, mul-le-mul, pow-zero, pow-suc, eq-one-of-dvd-one, div-mul-cancel}
 use native.Mathlib.Decide.{ℕ-discrete, decLt, decDvd}
 use native.Mathlib.Omega.{arith}
 use Rattle.numbers.specs.Divisors.{Prime, Coprime}
 use Rattle.numbers.specs.PrimePowers.{FullPower}
 use Rattle.numbers.specs.Factors.{LeastPrime, FirstFactor}
 use Rattle.numbers.specs.declared.factoring.Factor.{Factor}
-use Rattle.numbers.proofs.Divisors.{dvd-make, quotient, euclid, coprime-dvd, coprime-swap, factors-pos}
+use Rattle.numbers.proofs.Divisors.{dvd-make, quotient, euclid, factors-pos}
 use Rattle.numbers.proofs.Primes.{NoneBelow, least-prime-of, prime-factor}
 use Rattle.numbers.proofs.PrimePowers.{power-coprime, power-apart, full-power-of}
 

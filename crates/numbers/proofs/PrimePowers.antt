@@ -3,13 +3,13 @@
 use mathlib.Core.Path.{_≡_, refl, sym, ap, _∙_, subst}
 use mathlib.Core.Logic.{by-cases}
 use Prim.Native.Nat.{ℕ, zero, suc, _+_, _-_, _*_, _/_, _^_, _≤_, _<_, _∣_}
-use native.Mathlib.Nat.{dvd-refl, dvd-trans, dvd-mul-right, dvd-mul-left-of-dvd, mul-dvd-mul, mul-dvd-mul-left, dvd-of-mul-dvd-mul-right, one-dvd, mul-comm, mul-assoc, one-mul, pow-zero, pow-suc, div-mul-cancel, div-lt-self, pos-of-dvd-of-pos}
+use native.Mathlib.Nat.{dvd-refl, dvd-trans, mul-dvd-mul, mul-dvd-mul-left, dvd-of-mul-dvd-mul-right, one-dvd, mul-comm, one-mul, pow-zero, pow-suc, div-mul-cancel, div-lt-self}
 use native.Mathlib.Decide.{ℕ-discrete, decLt, decDvd}
 use native.Mathlib.Omega.{arith}
 use lib.Pow.{pow-add}
 use Rattle.numbers.specs.Divisors.{Prime, Coprime, IsGcd}
 use Rattle.numbers.specs.PrimePowers.{FullPower}
-use Rattle.numbers.proofs.Divisors.{dvd-make, quotient, gcd-of, factors-pos}
+use Rattle.numbers.proofs.Divisors.{dvd-make, gcd-of, factors-pos}
 use Rattle.numbers.proofs.Absorption.{power-absorbed}
 use Rattle.numbers.proofs.Primes.{prime-divisor, prime-coprime}
 

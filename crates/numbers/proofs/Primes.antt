@@ -1,7 +1,7 @@
 -- Every number above 1 has a least prime divisor, and so what is said without primes is said of primes.
 use mathlib.Core.Path.{_≡_, subst}
 use mathlib.Core.Logic.{_⊎_, inl, inr, by-cases}
-use Prim.Native.Nat.{ℕ, zero, suc, _+_, _-_, _*_, _≤_, _<_, _∣_}
+use Prim.Native.Nat.{ℕ, zero, suc, _+_, _-_, _*_, _<_, _∣_}
 use native.Mathlib.Nat.{dvd-refl, dvd-trans, le-of-dvd, pos-of-dvd-of-pos}
 use native.Mathlib.Decide.{ℕ-discrete, decLt, decDvd}
 use native.Mathlib.Omega.{arith}

@@ -2,7 +2,7 @@
 use mathlib.Core.Path.{_≡_, refl, sym, ap, _∙_, subst}
 use mathlib.Core.Logic.{_↔_}
 use Prim.Native.Nat.{ℕ, _+_, _-_, _*_, _/_, _%_, _≤_, _<_, _∣_}
-use native.Mathlib.Nat.{mod-lt, dvd-refl, mul-comm, mul-dvd-mul, div-mul-cancel, pos-of-dvd-of-pos}
+use native.Mathlib.Nat.{mod-lt, dvd-refl, mul-comm, div-mul-cancel, pos-of-dvd-of-pos}
 use native.Mathlib.Decide.{decLe}
 use native.Mathlib.Omega.{arith}
 use Rattle.numbers.specs.Divisors.{Coprime}
@@ -10,7 +10,7 @@ use Rattle.numbers.specs.Congruences.{Cong}
 use Rattle.numbers.specs.PrimePowers.{FullPower}
 use Rattle.numbers.specs.Residues.{Respects, RespectsDivisors, PermutesModulo}
 use Rattle.numbers.proofs.Divisors.{dvd-make, quotient, euclid, Unit-of, unit-of, coprime-swap, factors-pos}
-use Rattle.numbers.proofs.Congruences.{cong-eq, cong-sym, cong-add, cong-cancel, cong-mod, cong-same, same-cong, cong-small, cong-zero, zero-cong, cong-dvd, _⨾_}
+use Rattle.numbers.proofs.Congruences.{cong-eq, cong-sym, cong-add, cong-cancel, cong-mod, cong-same, same-cong, cong-small, cong-zero, zero-cong, _⨾_}
 use Rattle.numbers.proofs.PrimePowers.{power-apart, powers-divide}
 
 -- ---- two congruent numbers, as one and a step from it

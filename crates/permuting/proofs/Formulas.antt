@@ -1,5 +1,4 @@
 -- "No two positions share a value" may be shown by its contrary's contrary.
-use mathlib.Core.Path.{_≡_}
 use mathlib.Core.Logic.{by-cases}
 use native.Mathlib.Decide.{ℕ-discrete}
 use Rattle.permuting.specs.Formulas.{Formula, Permutes}

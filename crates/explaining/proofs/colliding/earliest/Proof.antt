@@ -3,7 +3,6 @@
 use mathlib.Core.Path.{sym, _∙_}
 use Prim.Native.Nat.{_-_}
 use native.Mathlib.Omega.{arith}
-use borrow.Author.Needs.{needs}
 use Rattle.explaining.specs.Searches.{along}
 use Rattle.explaining.proofs.Collisions.{Rising, rising-start, rising-step, rising-found}
 use Rattle.explaining.proofs.colliding.earliest.Statement.{statement}

@@ -4,7 +4,6 @@ use mathlib.Core.Path.{_≡_, refl, _∙_}
 use Prim.Native.Nat.{_-_}
 use native.Mathlib.Omega.{arith}
 use lib.ListN.{length}
-use borrow.Author.Needs.{needs}
 use Rattle.permuting.proofs.Bitmap.{marked-length}
 use Rattle.explaining.specs.Searches.{along}
 use Rattle.explaining.proofs.Collisions.{Searching, searching-start, searching-met, searching-found, searching-step}

@@ -2,7 +2,6 @@
 -- does not come to 1, since f would permute.
 use Prim.Native.Nat.{_≤_}
 use native.Mathlib.Omega.{arith}
-use borrow.Author.Needs.{needs}
 use borrow.Author.Tests.{not-true, not-false}
 use Rattle.explaining.proofs.Failures.{Passed, passed-start, passed-more, failing-found, factor-range}
 use Rattle.explaining.proofs.failing.failing_prime.Statement.{statement}

@@ -1,5 +1,4 @@
 -- The coefficients are asked by their remainders, which give the same f.
-use native.Mathlib.Omega.{arith}
 use borrow.Author.Needs.{needs}
 use Rattle.explaining.proofs.Failures.{reduced-range, reduced-decides}
 use Rattle.explaining.proofs.failing.permutes_modulo.Statement.{statement}
