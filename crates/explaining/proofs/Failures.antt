@@ -3,7 +3,7 @@ use mathlib.Core.Path.{_≡_, sym, _∙_, subst}
 use mathlib.Core.Logic.{⊎-elim, by-cases}
 use mathlib.Core.Bool.{Bool}
 use Prim.Native.Nat.{ℕ, zero, suc, _%_, _≤_, _<_}
-use native.Mathlib.Nat.{mod-lt, le-of-dvd, mul-le-mul-right}
+use native.Mathlib.Nat.{mod-lt}
 use native.Mathlib.Decide.{ℕ-discrete, decDvd}
 use native.Mathlib.Omega.{arith}
 use Rattle.numbers.specs.Decision.{Decides}
@@ -11,20 +11,16 @@ use Rattle.numbers.specs.PrimePowers.{FullPower}
 use Rattle.numbers.specs.Factors.{FirstFactor}
 use Rattle.numbers.specs.declared.factoring.Factor.{Factor}
 use Rattle.numbers.proofs.Divisors.{factors-pos}
-use Rattle.numbers.proofs.PrimePowers.{power-of, full-power-one}
-use Rattle.numbers.proofs.Factors.{Left, left-start, left-more, left-full, left-keeps, left-none, first-factor-of}
+use Rattle.numbers.proofs.PrimePowers.{full-power-one}
+use Rattle.numbers.proofs.Factors.{Left, left-start, left-more, left-full, left-keeps, left-none, factor-range, first-factor-of}
 use Rattle.numbers.proofs.Residues.{permutes-powers}
 use Rattle.permuting.specs.Formulas.{Permutes}
 use Rattle.permuting.proofs.Formulas.{permutes-stable}
 use Rattle.triples.specs.declared.Triple.{Triple}
 use Rattle.triples.specs.Shuffles.{triple, f, quadratic, InRange}
 use Rattle.triples.proofs.Values.{sum, sum-respects, reduced}
-use Rattle.explaining.specs.Reasons.{FailsAt, LeastFailing}
+use Rattle.explaining.specs.Reasons.{modulo, FailsAt, LeastFailing}
 use Rattle.explaining.proofs.Collisions.{collision-or-permutes, collision-fails}
-
--- the quadratic of t, modulo m
-abbrev pub modulo : Triple → ℕ → Triple
-modulo t m = triple m (t .f1) (t .f2)
 
 -- ---- asked with the remainders of the coefficients
 
@@ -73,7 +69,15 @@ some-left {t} {rest} pos not left = by-cases (ℕ-discrete rest 1) (λ e. absurd
         permutes-powers (sum t) pos (λ m _. sum-respects t m) .1
         (λ p q full. permutes-stable (quadratic (modulo t q)) (λ no. left-none left e (full .prime) (full .of) (record { power = q; full = full; fails = no })))
 
+pub passed-start : {t : Triple} → Passed t (t .k)
+passed-start = left-start
+
 module _ {t : Triple} {rest : ℕ} {r : Factor} (left : Passed t rest) (next : FirstFactor rest r) where
+  -- it goes on with less
+  pub passed-more : InRange t → ¬ Permutes (quadratic t) → Permutes (quadratic (modulo t (r .power))) → Passed t (r .rest) × (2 ≤ r .rest)
+  passed-more range not permutes =
+      let further = left-more left next (passes (left-full left next) permutes) in (further, some-left (omega (arith, range .low)) not further)
+
   pub failing-found : ¬ Permutes (quadratic (modulo t (r .power))) → LeastFailing t (r .prime)
   failing-found not =
       record {
@@ -81,33 +85,6 @@ module _ {t : Triple} {rest : ℕ} {r : Factor} (left : Passed t rest) (next : F
         least = λ p fails. by-cases (decDvd p rest) (next .least p (fails .full .prime .above-one))
             (λ out. absurd (left-keeps left (fails .full .prime) (fails .full .of) out fails));
       }
-
-  -- it goes on with less
-  pub failing-further : Permutes (quadratic (modulo t (r .power))) → Passed t (r .rest)
-  failing-further permutes = left-more left next (passes (left-full left next) permutes)
-
--- the numbers of a factor
-pub record FactorRange (n : ℕ) (r : Factor) : Type 0 where
-  pub above-one : 1 < r .prime
-  pub prime : r .prime ≤ r .power
-  pub power : r .power ≤ n
-  pub rest : r .rest < n
-
-pub factor-range : {n : ℕ} {r : Factor} → 0 < n → FirstFactor n r → FactorRange n r
-factor-range {n} {r} pos next =
-    let parts = factors-pos n (r .power) (r .rest) pos (sym (next .whole)) in
-    let big : 1 < r .prime = next .full .prime .above-one in
-    let le : r .prime ≤ r .power = le-of-dvd (parts .0) (power-of (next .full)) in
-    let two : 2 ≤ r .power = omega arith in
-    record { above-one = big; prime = le; power = le-of-dvd pos (next .full .divides); rest = omega (arith, next .whole, mul-le-mul-right (r .rest) two) }
-
-pub passed-start : {t : Triple} → Passed t (t .k)
-passed-start = left-start
-
-pub passed-more : {t : Triple} {rest : ℕ} {r : Factor} → InRange t → ¬ Permutes (quadratic t) → Passed t rest → FirstFactor rest r
-    → Permutes (quadratic (modulo t (r .power))) → Passed t (r .rest) × (2 ≤ r .rest)
-passed-more range not left next permutes =
-    let further = failing-further left next permutes in (further, some-left (omega (arith, range .low)) not further)
 
 -- ---- there is one
 
@@ -121,7 +98,7 @@ failing-in (suc fuel) {t} rest le big range not left = go (first-factor-of rest 
     go (r, next) further =
         ⊎-elim (λ (y, x, address, c). (r .prime, failing-found left next (collision-fails (quadratic (modulo t (r .power))) c)))
         (λ permutes.
-        let (more, some) = passed-more range not left next permutes in
+        let (more, some) = passed-more left next range not permutes in
         further (r .rest) (omega (arith, factor-range (omega arith) next .rest)) some range not more)
         (collision-or-permutes (quadratic (modulo t (r .power))))
 

@@ -15,11 +15,15 @@ pub record FirstCollision (φ : Formula) (y x address : ℕ) : Type 0 where
   pub there : φ .map x ≡ address
   pub smallest : (i j : ℕ) → i < j → j < y → φ .map i ≢ φ .map j
 
+-- The same quadratic, modulo m.
+abbrev pub modulo : Triple → ℕ → Triple
+modulo t m = triple m (t .f1) (t .f2)
+
 -- p is a prime of K, and the quadratic does not permute modulo the full power of p in K.
 pub record FailsAt (t : Triple) (p : ℕ) : Type 0 where
   pub power : ℕ
   pub full : FullPower (t .k) p power
-  pub fails : ¬ Permutes (quadratic (triple power (t .f1) (t .f2)))
+  pub fails : ¬ Permutes (quadratic (modulo t power))
 
 -- p is the least such prime.
 pub record LeastFailing (t : Triple) (p : ℕ) : Type 0 where

@@ -3,13 +3,13 @@ use triples::Triple;
 ghost use Prim.Native.Nat.{_≤_};
 ghost use Rattle.numbers.specs.Decision.{Decides};
 ghost use Rattle.permuting.specs.Formulas.{Permutes};
-ghost use Rattle.triples.specs.Shuffles.{triple, quadratic, InRange};
-ghost use Rattle.explaining.specs.Reasons.{LeastFailing};
+ghost use Rattle.triples.specs.Shuffles.{quadratic, InRange};
+ghost use Rattle.explaining.specs.Reasons.{modulo, LeastFailing};
 
 // Does the quadratic permute modulo m?
 fn permutes_modulo(t: Triple, m: u32) -> bool
     requires { ⌜ (2 ≤ m) × (m ≤ 8192) ⌝ }
-    ensures { λ r. ⌜ Decides (Permutes (quadratic (triple m (t .f1) (t .f2)))) r ⌝ }
+    ensures { λ r. ⌜ Decides (Permutes (quadratic (modulo t m))) r ⌝ }
 {
     acceptance::permutes(Triple {
         k: m,

@@ -3,7 +3,7 @@
 use mathlib.Core.Path.{_≡_, sym, ap, _∙_, subst}
 use mathlib.Core.Logic.{_≢_, ⊎-elim, by-cases}
 use Prim.Native.Nat.{ℕ, suc, _*_, _/_, _%_, _^_, _≤_, _<_, _∣_}
-use native.Mathlib.Nat.{dvd-refl, dvd-trans, dvd-of-mul-dvd-mul-right, mod-eq-zero-of-dvd, pos-of-dvd-of-pos, le-of-dvd, one-mul, mul-comm, mul-assoc, mul-le-mul, pow-zero, pow-suc, eq-one-of-dvd-one, div-mul-cancel}
+use native.Mathlib.Nat.{dvd-refl, dvd-trans, dvd-of-mul-dvd-mul-right, mod-eq-zero-of-dvd, pos-of-dvd-of-pos, le-of-dvd, mul-le-mul-right, one-mul, mul-comm, mul-assoc, mul-le-mul, pow-zero, pow-suc, eq-one-of-dvd-one, div-mul-cancel}
 use native.Mathlib.Decide.{ℕ-discrete, decLt, decDvd}
 use native.Mathlib.Omega.{arith}
 use Rattle.numbers.specs.Divisors.{Prime, Coprime}
@@ -12,7 +12,7 @@ use Rattle.numbers.specs.Factors.{LeastPrime, FirstFactor}
 use Rattle.numbers.specs.declared.factoring.Factor.{Factor}
 use Rattle.numbers.proofs.Divisors.{dvd-make, quotient, euclid, factors-pos}
 use Rattle.numbers.proofs.Primes.{NoneBelow, least-prime-of, prime-factor}
-use Rattle.numbers.proofs.PrimePowers.{power-coprime, power-apart, full-power-of}
+use Rattle.numbers.proofs.PrimePowers.{power-of, power-coprime, power-apart, full-power-of}
 
 -- ---- the least prime of n
 
@@ -79,6 +79,21 @@ divided-all {n} {p} {power} {rest} pos l d out =
   where
     turned : power * p ∣ n → p * power ∣ rest * power
     turned h = subst (λ (m : ℕ). m ∣ rest * power) (mul-comm power p) (subst (λ (m : ℕ). power * p ∣ m) (sym (d .whole) ∙ mul-comm power rest) h)
+
+-- the numbers of a factor
+pub record FactorRange (n : ℕ) (r : Factor) : Type 0 where
+  pub above-one : 1 < r .prime
+  pub prime : r .prime ≤ r .power
+  pub power : r .power ≤ n
+  pub rest : r .rest < n
+
+pub factor-range : {n : ℕ} {r : Factor} → 0 < n → FirstFactor n r → FactorRange n r
+factor-range {n} {r} pos next =
+    let parts = factors-pos n (r .power) (r .rest) pos (sym (next .whole)) in
+    let big : 1 < r .prime = next .full .prime .above-one in
+    let le : r .prime ≤ r .power = le-of-dvd (parts .0) (power-of (next .full)) in
+    let two : 2 ≤ r .power = omega arith in
+    record { above-one = big; prime = le; power = le-of-dvd pos (next .full .divides); rest = omega (arith, next .whole, mul-le-mul-right (r .rest) two) }
 
 -- every number above 1 has one
 pub first-factor-of : (n : ℕ) → 1 < n → (r : Factor) × FirstFactor n r

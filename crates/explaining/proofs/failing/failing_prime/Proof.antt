@@ -3,7 +3,8 @@
 use Prim.Native.Nat.{_≤_}
 use native.Mathlib.Omega.{arith}
 use borrow.Author.Tests.{not-true, not-false}
-use Rattle.explaining.proofs.Failures.{Passed, passed-start, passed-more, failing-found, factor-range}
+use Rattle.numbers.proofs.Factors.{factor-range}
+use Rattle.explaining.proofs.Failures.{Passed, passed-start, passed-more, failing-found}
 use Rattle.explaining.proofs.failing.failing_prime.Statement.{statement}
 use Rattle.explaining.proofs.failing.failing_prime.Tie as tie
 
@@ -36,7 +37,7 @@ primes-again c =
     let factored = asked .before in
     let i = factored .before .primes .inv in
     let pre = factored .before .before .pre in
-    let (more, some) = passed-more (pre .0) (pre .1) (i .0) (factored .first-factor .ensures) (asked .permutes-modulo .ensures .yes-only-if (not-false _ (c .if1 .left))) in
+    let (more, some) = passed-more (i .0) (factored .first-factor .ensures) (pre .0) (pre .1) (asked .permutes-modulo .ensures .yes-only-if (not-false _ (c .if1 .left))) in
     (more, some, omega (arith, i .2, factor-range (omega (arith, i .1)) (factored .first-factor .ensures) .rest))
 
 returns : tie.Need-returns Inv-primes μ-primes
