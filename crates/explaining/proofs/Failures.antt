@@ -44,7 +44,7 @@ reduced-range t low high =
 -- it is to blame
 pub fails-not : {t : Triple} {p : ℕ} → 0 < t .k → FailsAt t p → ¬ Permutes (quadratic t)
 fails-not {t} {p} pos fails permutes =
-    fails .fails (permutes-powers (sum t) pos (λ m _. sum-respects t m) .0 permutes p (fails .power) (fails .full))
+    fails .fails (permutes-powers (sum t) pos (λ m _ x y _ _. sum-respects t m x y) .0 permutes p (fails .power) (fails .full))
 
 -- where f permutes modulo the full power, the prime does not fail
 passes : {t : Triple} {p q : ℕ} → FullPower (t .k) p q → Permutes (quadratic (modulo t q)) → ¬ FailsAt t p
@@ -66,7 +66,7 @@ some-left {t} {rest} pos not left = by-cases (ℕ-discrete rest 1) (λ e. absurd
   where
     all : rest ≡ 1 → Permutes (quadratic t)
     all e =
-        permutes-powers (sum t) pos (λ m _. sum-respects t m) .1
+        permutes-powers (sum t) pos (λ m _ x y _ _. sum-respects t m x y) .1
         (λ p q full. permutes-stable (quadratic (modulo t q)) (λ no. left-none left e (full .prime) (full .of) (record { power = q; full = full; fails = no })))
 
 pub passed-start : {t : Triple} → Passed t (t .k)

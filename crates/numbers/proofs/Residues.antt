@@ -2,13 +2,13 @@
 use mathlib.Core.Path.{_≡_, refl, sym, ap, _∙_, subst}
 use mathlib.Core.Logic.{_↔_}
 use Prim.Native.Nat.{ℕ, _+_, _-_, _*_, _/_, _%_, _≤_, _<_, _∣_}
-use native.Mathlib.Nat.{mod-lt, dvd-refl, mul-comm, div-mul-cancel, pos-of-dvd-of-pos}
+use native.Mathlib.Nat.{mod-lt, mod-eq-of-lt, le-of-dvd, dvd-refl, mul-comm, div-mul-cancel, pos-of-dvd-of-pos}
 use native.Mathlib.Decide.{decLe}
 use native.Mathlib.Omega.{arith}
 use Rattle.numbers.specs.Divisors.{Coprime}
 use Rattle.numbers.specs.Congruences.{Cong}
 use Rattle.numbers.specs.PrimePowers.{FullPower}
-use Rattle.numbers.specs.Residues.{Respects, RespectsDivisors, PermutesModulo}
+use Rattle.numbers.specs.Residues.{RespectsDivisors, PermutesModulo}
 use Rattle.numbers.proofs.Divisors.{dvd-make, quotient, euclid, Unit-of, unit-of, coprime-swap, factors-pos}
 use Rattle.numbers.proofs.Congruences.{cong-eq, cong-sym, cong-add, cong-cancel, cong-mod, cong-same, same-cong, cong-small, cong-zero, zero-cong, _⨾_}
 use Rattle.numbers.proofs.PrimePowers.{power-apart, powers-divide}
@@ -55,6 +55,10 @@ cong-both {q} {s} co =
 
 -- ---- maps
 
+-- numbers that are congruent modulo m go to numbers that are
+abbrev pub Respects : (ℕ → ℕ) → ℕ → Type 0
+Respects φ m = (x y : ℕ) → x % m ≡ y % m → φ x % m ≡ φ y % m
+
 -- one-to-one, said of all numbers
 abbrev OneToOne : (ℕ → ℕ) → ℕ → Type 0
 OneToOne φ m = (x y : ℕ) → Cong m (φ x) (φ y) → Cong m x y
@@ -74,7 +78,7 @@ module _ (φ : ℕ → ℕ) {m : ℕ} where
       (cong-same (respect respects (cong-sym (cong-mod m x)) ⨾ c ⨾ respect respects (cong-mod m y))))
       ⨾ cong-sym (cong-mod m y)
 
-module _ (φ : ℕ → ℕ) {n : ℕ} (pos : 0 < n) (respects : RespectsDivisors φ n) where
+module _ (φ : ℕ → ℕ) {n : ℕ} (pos : 0 < n) (respects : (m : ℕ) → m ∣ n → Respects φ m) where
   -- values that are equal modulo n are equal modulo each full power, so the positions are, so they are modulo n
   powers-one-to-one : ((p q : ℕ) → FullPower n p q → PermutesModulo φ q) → OneToOne φ n
   powers-one-to-one each x y c =
@@ -114,11 +118,40 @@ module _ (φ : ℕ → ℕ) {n : ℕ} (pos : 0 < n) (respects : RespectsDivisors
       modulo-rest : Cong rest (φ (lift x)) (φ (lift y))
       modulo-rest = respect φ (respects rest of-rest) (zero-lifted x ⨾ cong-sym (zero-lifted y))
 
-  -- it permutes modulo n exactly if it permutes modulo every full prime power of n
-  pub permutes-powers : PermutesModulo φ n ↔ ((p q : ℕ) → FullPower n p q → PermutesModulo φ q)
-  permutes-powers = (down, λ each. one-to-one-below φ (powers-one-to-one each))
+  whole-powers : PermutesModulo φ n ↔ ((p q : ℕ) → FullPower n p q → PermutesModulo φ q)
+  whole-powers = (down, λ each. one-to-one-below φ (powers-one-to-one each))
     where
       down : PermutesModulo φ n → (p q : ℕ) → FullPower n p q → PermutesModulo φ q
       down permutes p q full =
           let whole : q * (n / q) ≡ n = mul-comm q (n / q) ∙ div-mul-cancel q (full .divides) in
-          one-to-one-below φ (one-to-one-part q (n / q) whole (power-apart full (n / q) whole) (below-one-to-one φ pos (respects n (dvd-refl n)) permutes))
+          one-to-one-below φ
+          (one-to-one-part q (n / q) whole (power-apart full (n / q) whole) (below-one-to-one φ pos (respects n (dvd-refl n)) permutes))
+
+-- it permutes modulo n exactly if it permutes modulo every full prime power of n: what it does from n on does not count, and so it may be
+-- taken to begin anew there
+pub permutes-powers : (φ : ℕ → ℕ) {n : ℕ} → 0 < n → RespectsDivisors φ n → PermutesModulo φ n ↔ ((p q : ℕ) → FullPower n p q → PermutesModulo φ q)
+permutes-powers φ {n} pos respects = (
+  (λ permutes p q full. forth (within q full) (both .0 (back (omega arith) permutes) p q full)),
+  λ each. forth (omega arith) (both .1 (λ p q full. back (within q full) (each p q full))),
+)
+  where
+    again : ℕ → ℕ
+    again x = φ (x % n)
+
+    both : PermutesModulo again n ↔ ((p q : ℕ) → FullPower n p q → PermutesModulo again q)
+    both = whole-powers again pos (λ m h x y e. respects m h (x % n) (y % n) (mod-lt x pos) (mod-lt y pos) (sym (down m h x) ∙ e ∙ down m h y))
+      where
+        down : (m : ℕ) → m ∣ n → (x : ℕ) → x % m ≡ x % n % m
+        down m h x = cong-same (cong-down m h (cong-mod n x))
+
+    within : (q : ℕ) {p : ℕ} → FullPower n p q → q ≤ n
+    within q full = le-of-dvd pos (full .divides)
+
+    same : {m : ℕ} → m ≤ n → (x : ℕ) → x < m → again x % m ≡ φ x % m
+    same {m} le x lt = ap (λ (i : ℕ). φ i % m) (mod-eq-of-lt (omega arith))
+
+    back : {m : ℕ} → m ≤ n → PermutesModulo φ m → PermutesModulo again m
+    back le permutes x y lx ly e = permutes x y lx ly (sym (same le x lx) ∙ e ∙ same le y ly)
+
+    forth : {m : ℕ} → m ≤ n → PermutesModulo again m → PermutesModulo φ m
+    forth le permutes x y lx ly e = permutes x y lx ly (same le x lx ∙ e ∙ sym (same le y ly))

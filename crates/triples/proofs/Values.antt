@@ -5,7 +5,7 @@ use native.Mathlib.Nat.{mul-le-mul, dvd-mul-right, dvd-mul-right-of-dvd, div-add
 use native.Mathlib.Decide.{decLt}
 use native.Mathlib.Omega.{arith}
 use Rattle.numbers.proofs.Congruences.{cong-eq, cong-sym, cong-mod, cong-mul, cong-times, cong-same, same-cong, cong-zero, zero-cong, cong-cancel, cong-add, cong-dvd, _⨾_}
-use Rattle.numbers.specs.Residues.{Respects}
+use Rattle.numbers.proofs.Residues.{Respects}
 use Rattle.triples.specs.declared.Triple.{Triple}
 use Rattle.permuting.specs.Formulas.{Permutes}
 use Rattle.triples.specs.Shuffles.{triple, f, quadratic}
