@@ -26,8 +26,8 @@ fn earliest(map: Map, address: usize) -> usize
     x
 }
 
-// Goes up through the positions and marks the address of each, until one is marked already. A mark does not tell whose it is: going up
-// once more is cheaper than a place for each address, which would ask for sixteen times the bytes.
+// Goes up through the positions and marks the address of each, until one is marked already. A mark does not tell whose it is, so that
+// x is found by going up once more: a table of positions would ask for sixteen times the bytes.
 fn search(map: Map, seen: &mut [u8]) -> Pair
     requires { ⌜ Searchable map (now seen) ⌝ }
     ensures { λ r. ⌜ FirstCollision (along map) (r .y) (r .x) (r .address) ⌝ }

@@ -18,6 +18,7 @@ fn permutes_modulo(t: Triple, m: u32) -> bool
     })
 }
 
+// One of the primes fails, since f does not permute, so that the rest does not come to 1.
 pub fn failing_prime(t: Triple) -> u32
     requires { ⌜ InRange t × (¬ Permutes (quadratic t)) ⌝ }
     ensures { λ p. ⌜ LeastFailing t p ⌝ }
