@@ -8,10 +8,12 @@ use native.Mathlib.Decide.{ℕ-discrete}
 use native.Mathlib.Omega.{arith}
 use lib.Dec.{eqb}
 use borrow.Author.Tests.{eqb-true, eqb-false}
-use Rattle.numbers.proofs.Congruences.{cong-eq, cong-sym, cong-same, cong-add, cong-mul, cong-mod, _⨾_}
+use Rattle.numbers.proofs.Congruences.{cong-same}
 use Rattle.triples.specs.declared.Triple.{Triple}
 use Rattle.permuting.specs.Formulas.{Permutes}
+use Rattle.permuting.proofs.Formulas.{permutes-as}
 use Rattle.triples.specs.Shuffles.{triple, f, InRange, oddForm, quadratic}
+use Rattle.triples.proofs.Values.{reduced}
 
 abbrev pub shifted : Triple → Triple
 shifted t = triple (t .k) ((t .f1 + t .k / 2) % t .k) ((t .f2 + t .k / 2) % t .k)
@@ -42,9 +44,8 @@ shifted-same : (t : Triple) → t .k % 2 ≡ 0 → (x : ℕ) → f (shifted t) x
 shifted-same t even x =
     let (q, e) = half-product x in
     let w : t .k ≡ 2 * (t .k / 2) = omega arith in
-    cong-same
-    (cong-add (cong-mul (cong-sym (cong-mod (t .k) (t .f1 + t .k / 2))) (cong-eq {x = x} refl)) (cong-mul (cong-sym (cong-mod (t .k) (t .f2 + t .k / 2))) (cong-eq {x = x * x} refl))
-    ⨾ record { l = 0; r = q; eq = omega (arith, ap (λ (n : ℕ). t .k / 2 * n) e, ap (λ (n : ℕ). q * n) w) })
+    reduced (t .k) (t .f1 + t .k / 2) (t .f2 + t .k / 2) x
+    ∙ cong-same (record { l = 0; r = q; eq = omega (arith, ap (λ (n : ℕ). t .k / 2 * n) e, ap (λ (n : ℕ). q * n) w) })
 
 -- the odd form is the same f, at every position
 pub odd-form-same : (t : Triple) (x : ℕ) → f (oddForm t) x ≡ f t x
@@ -86,12 +87,10 @@ odd-form t r =
 
 -- the same f permutes as well
 pub form-permutes : {t o : Triple} → Form t o → Permutes (quadratic o) → Permutes (quadratic t)
-form-permutes w h x y lx ly e =
-    h x y (omega (arith, w .length)) (omega (arith, w .length)) (w .same x ∙ e ∙ sym (w .same y))
+form-permutes {t} {o} w = permutes-as (quadratic o) (quadratic t) (w .length) (λ x _. w .same x)
 
 pub permutes-form : {t o : Triple} → Form t o → Permutes (quadratic t) → Permutes (quadratic o)
-permutes-form w h x y lx ly e =
-    h x y (omega (arith, w .length)) (omega (arith, w .length)) (sym (w .same x) ∙ e ∙ w .same y)
+permutes-form {t} {o} w = permutes-as (quadratic t) (quadratic o) (sym (w .length)) (λ x _. sym (w .same x))
 
 -- ---- as the code takes it
 

@@ -7,8 +7,9 @@ use Prim.Native.Nat.{ℕ, _+_, _*_, _≤_, _<_}
 use native.Mathlib.Decide.{ℕ-discrete, decLt}
 use native.Mathlib.Omega.{arith}
 use lib.ListN.{length}
-use Rattle.numbers.proofs.Computation.{First, first-or-none}
+use Rattle.numbers.proofs.Computation.{FirstBelow, first-or-none}
 use Rattle.permuting.specs.Formulas.{Formula, Permutes}
+use Rattle.permuting.proofs.Formulas.{permutes-apart}
 use Rattle.permuting.specs.Bitmap.{marks, Stands, Marked}
 use Rattle.permuting.proofs.Bitmap.{length-marks, marked-length}
 use Rattle.permuting.proofs.Cycles.{Seen, clash, seen-now, seen-still, seen-how}
@@ -18,15 +19,6 @@ use Rattle.explaining.specs.Searches.{Unmarked, Met, Earliest}
 -- no two positions below y share an address
 abbrev ApartBelow : Formula → ℕ → Type 0
 ApartBelow φ y = (i j : ℕ) → i < j → j < y → φ .map i ≢ φ .map j
-
--- up to the length that is to permute
-all-apart : (φ : Formula) → ApartBelow φ (φ .length) → Permutes φ
-all-apart φ apart x y lx ly e = go (decLt x y) (decLt y x)
-  where
-    go : Dec (x < y) → Dec (y < x) → x ≡ y
-    go (yes l) r = absurd (apart x y l ly e)
-    go (no l) (yes m) = absurd (apart y x m lx (sym e))
-    go (no l) (no m) = omega arith
 
 -- ---- what a first collision says
 
@@ -89,9 +81,9 @@ Collision φ = (y : ℕ) × (x : ℕ) × (address : ℕ) × FirstCollision φ y 
 
 pub collision-or-permutes : (φ : Formula) → Collision φ ⊎ Permutes φ
 collision-or-permutes φ =
-    ⊎-elim (λ y. inl (collision y)) (λ none. inr (all-apart φ (λ i j l m e. none j m (i, l, e)))) (first-or-none (Again φ) (again φ) (φ .length))
+    ⊎-elim (λ y. inl (collision y)) (λ none. inr (permutes-apart φ (λ i j l m e. none j m (i, l, e)))) (first-or-none (Again φ) (again φ) (φ .length))
   where
-    collision : First (Again φ) (φ .length) → Collision φ
+    collision : FirstBelow (Again φ) (φ .length) → Collision φ
     collision y =
         let (x, l, e) = y .holds in
         (y .at, x, φ .map (y .at), record { within = y .within; earlier = l; here = refl; there = e; smallest = λ i j l m e. y .before j m (i, l, e) })
@@ -133,7 +125,7 @@ module _ (φ : Formula) {s : List ℕ} {y : ℕ} (g : Searching φ s y) {a : ℕ
     searching-step {s′} collides stands said m =
         record {
           within = by-cases (decLt (y + 1) (φ .length)) (λ l. l)
-              (λ l. absurd (collides (all-apart φ (λ i j l′ m′. apart i j l′ (omega (arith, g .within))))));
+              (λ l. absurd (collides (permutes-apart φ (λ i j l′ m′. apart i j l′ (omega (arith, g .within))))));
           apart = apart;
           marked = λ i l. by-cases (ℕ-discrete i y) (λ e. later (φ .map i) (ap (φ .map) e ∙ sym here)) (λ ne. still i (g .marked i (omega arith)));
           only = λ b seen. ⊎-elim (λ e. (y, omega arith, sym here ∙ sym e)) (λ old. let (i, l, w) = g .only b old in (i, omega arith, w)) (how b seen);

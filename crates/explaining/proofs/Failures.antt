@@ -1,5 +1,5 @@
 -- The least prime at which f fails to permute: one number fits, there is one unless f permutes, and how trial division comes to it.
-use mathlib.Core.Path.{_≡_, sym, _∙_, subst}
+use mathlib.Core.Path.{_≡_, refl, sym, subst}
 use mathlib.Core.Logic.{⊎-elim, by-cases}
 use mathlib.Core.Bool.{Bool}
 use Prim.Native.Nat.{ℕ, zero, suc, _%_, _≤_, _<_}
@@ -15,7 +15,7 @@ use Rattle.numbers.proofs.PrimePowers.{full-power-one}
 use Rattle.numbers.proofs.Factors.{Left, left-start, left-more, left-full, left-keeps, left-none, factor-range, first-factor-of}
 use Rattle.numbers.proofs.Residues.{permutes-powers}
 use Rattle.permuting.specs.Formulas.{Permutes}
-use Rattle.permuting.proofs.Formulas.{permutes-stable}
+use Rattle.permuting.proofs.Formulas.{permutes-stable, permutes-as}
 use Rattle.triples.specs.declared.Triple.{Triple}
 use Rattle.triples.specs.Shuffles.{triple, f, quadratic, InRange}
 use Rattle.triples.proofs.Values.{sum, sum-respects, reduced}
@@ -28,12 +28,15 @@ pub reduced-decides : (t : Triple) (m : ℕ) {answer : Bool} → Decides (Permut
     → Decides (Permutes (quadratic (modulo t m))) answer
 reduced-decides t m d =
     record {
-      yes-only-if = λ e x y lx ly w. d .yes-only-if e x y lx ly (same x ∙ w ∙ sym (same y));
-      no-only-if = λ e permutes. d .no-only-if e (λ x y lx ly w. permutes x y lx ly (sym (same x) ∙ w ∙ same y));
+      yes-only-if = λ e. permutes-as (quadratic small) (quadratic (modulo t m)) refl (λ x _. same x) (d .yes-only-if e);
+      no-only-if = λ e permutes. d .no-only-if e (permutes-as (quadratic (modulo t m)) (quadratic small) refl (λ x _. sym (same x)) permutes);
     }
   where
-    same : (x : ℕ) → f (triple m (t .f1 % m) (t .f2 % m)) x ≡ f (modulo t m) x
-    same x = reduced m (t .f1) (t .f2) x
+    small : Triple
+    small = triple m (t .f1 % m) (t .f2 % m)
+
+    same : (x : ℕ) → f small x ≡ f (modulo t m) x
+    same = reduced m (t .f1) (t .f2)
 
 pub reduced-range : (t : Triple) {m : ℕ} → 2 ≤ m → m ≤ 8192 → InRange (triple m (t .f1 % m) (t .f2 % m))
 reduced-range t low high =

@@ -2,10 +2,11 @@
 use mathlib.Core.Path.{sym, ap, _∙_}
 use mathlib.Core.Bool.{false}
 use mathlib.Core.List.{List, [], append-nil}
-use Prim.Native.Nat.{ℕ, _*_, _≤_, _<_}
+use Prim.Native.Nat.{ℕ, _*_, _≤_}
 use native.Mathlib.Omega.{arith}
 use lib.ListN.{getD, replicate, length-replicate}
 use Rattle.permuting.specs.Formulas.{Permutes}
+use Rattle.permuting.proofs.Formulas.{permutes-as}
 use Rattle.permuting.specs.Bitmap.{marks}
 use Rattle.permuting.proofs.Bitmap.{none-marked}
 use Rattle.triples.specs.declared.Triple.{Triple}
@@ -29,10 +30,7 @@ module _ {t : Triple} {m : Map} (of : MapOf t m) where
   searchable not =
       record {
         sound = of .sound;
-        collides = λ permutes. not (λ x y lx ly e.
-            let lx′ : x < m .k = omega (arith, of .size) in
-            let ly′ : y < m .k = omega (arith, of .size) in
-            permutes x y lx′ ly′ (of .places x lx′ ∙ e ∙ sym (of .places y ly′)));
+        collides = λ permutes. not (permutes-as (along m) (quadratic t) (of .size) (of .places) permutes);
         bytes = zeros-unmarked (m .k) 1024 (omega (arith, of .sound .few));
       }
 

@@ -41,18 +41,18 @@ same-below n u v e i l = eqb→eq (u i) (v i) (passes n (λ i. eqb (u i) (v i)) 
 
 -- ---- the first number of which something holds
 
-pub record First (P : ℕ → Type 0) (n : ℕ) : Type 0 where
+pub record FirstBelow (P : ℕ → Type 0) (n : ℕ) : Type 0 where
   pub at : ℕ
   pub within : at < n
   pub holds : P at
   pub before : (i : ℕ) → i < at → ¬ P i
 
 -- it is below n, or none is
-pub first-or-none : (P : ℕ → Type 0) → ((i : ℕ) → Dec (P i)) → (n : ℕ) → First P n ⊎ ((i : ℕ) → i < n → ¬ P i)
+pub first-or-none : (P : ℕ → Type 0) → ((i : ℕ) → Dec (P i)) → (n : ℕ) → FirstBelow P n ⊎ ((i : ℕ) → i < n → ¬ P i)
 first-or-none P decide zero = inr (λ i l. absurd (omega arith))
 first-or-none P decide (suc n) = go (first-or-none P decide n) (decide n)
   where
-    go : First P n ⊎ ((i : ℕ) → i < n → ¬ P i) → Dec (P n) → First P (suc n) ⊎ ((i : ℕ) → i < suc n → ¬ P i)
+    go : FirstBelow P n ⊎ ((i : ℕ) → i < n → ¬ P i) → Dec (P n) → FirstBelow P (suc n) ⊎ ((i : ℕ) → i < suc n → ¬ P i)
     go (inl found) d = inl (record { at = found .at; within = omega (arith, found .within); holds = found .holds; before = found .before })
     go (inr none) (yes here) = inl (record { at = n; within = omega arith; holds = here; before = none })
     go (inr none) (no out) = inr (λ i l h. by-cases (ℕ-discrete i n) (λ e. out (subst P e h)) (λ ne. none i (omega arith) h))

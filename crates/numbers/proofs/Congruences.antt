@@ -1,7 +1,7 @@
 -- Laws of congruence: it is an equivalence that sums, products and powers respect, and it is what remainders say.
-use mathlib.Core.Path.{_≡_, refl, sym, ap, ap₂, subst, _∙_}
+use mathlib.Core.Path.{_≡_, refl, sym, ap, ap₂, _∙_}
 use Prim.Native.Nat.{ℕ, zero, suc, _+_, _*_, _-_, _/_, _%_, _^_, _≤_, _<_, _∣_}
-use native.Mathlib.Nat.{mod-add-div', add-mul-mod-self-right, mod-eq-of-lt, pow-zero, pow-suc, dvd-of-mod-eq-zero, mod-eq-zero-of-dvd, dvd-mod-iff}
+use native.Mathlib.Nat.{mod-add-div', add-mul-mod-self-right, mod-eq-of-lt, pow-zero, pow-suc, dvd-of-mod-eq-zero, mod-eq-zero-of-dvd}
 use native.Mathlib.Omega.{arith}
 use Rattle.numbers.specs.Congruences.{Cong}
 use Rattle.numbers.proofs.Divisors.{dvd-make, quotient}
@@ -72,6 +72,12 @@ zero-cong {K} x h = let (q, e) = quotient K h in record { l = 0; r = q; eq = ome
 pub cong-dvd : {K : ℕ} (x y : ℕ) → x ≤ y → Cong K x y → K ∣ y - x
 cong-dvd {K} x y le c = cong-zero (cong-cancel x (cong-eq (omega arith) ⨾ cong-sym c ⨾ cong-eq (omega arith)))
 
+-- what is congruent modulo a number is so modulo its divisors
+pub cong-down : {K : ℕ} (m : ℕ) {x y : ℕ} → m ∣ K → Cong K x y → Cong m x y
+cong-down m h c =
+    let (q, e) = quotient m h in
+    record { l = c .l * q; r = c .r * q; eq = omega (arith, c .eq, ap (λ (t : ℕ). c .l * t) e, ap (λ (t : ℕ). c .r * t) e) }
+
 -- a divisor of K divides both of two congruent numbers, or neither
 pub cong-divisor : {K x y : ℕ} (d : ℕ) → d ∣ K → Cong K x y → d ∣ x → d ∣ y
-cong-divisor d h c p = dvd-mod-iff d h .0 (subst (λ (n : ℕ). d ∣ n) (cong-same c) (dvd-mod-iff d h .1 p))
+cong-divisor {x = x} d h c p = cong-zero (cong-sym (cong-down d h c) ⨾ zero-cong x p)

@@ -2,7 +2,7 @@
 use mathlib.Core.Path.{_≡_, refl, sym, ap, _∙_, subst}
 use mathlib.Core.Logic.{_↔_}
 use Prim.Native.Nat.{ℕ, _+_, _-_, _*_, _/_, _%_, _≤_, _<_, _∣_}
-use native.Mathlib.Nat.{mod-lt, mod-eq-of-lt, le-of-dvd, dvd-refl, mul-comm, div-mul-cancel, pos-of-dvd-of-pos}
+use native.Mathlib.Nat.{mod-lt, mod-mod-of-dvd, mod-eq-of-lt, le-of-dvd, dvd-refl, mul-comm, div-mul-cancel, pos-of-dvd-of-pos}
 use native.Mathlib.Decide.{decLe}
 use native.Mathlib.Omega.{arith}
 use Rattle.numbers.specs.Divisors.{Coprime}
@@ -10,7 +10,7 @@ use Rattle.numbers.specs.Congruences.{Cong}
 use Rattle.numbers.specs.PrimePowers.{FullPower}
 use Rattle.numbers.specs.Residues.{RespectsDivisors, PermutesModulo}
 use Rattle.numbers.proofs.Divisors.{dvd-make, quotient, euclid, Unit-of, unit-of, coprime-swap, factors-pos}
-use Rattle.numbers.proofs.Congruences.{cong-eq, cong-sym, cong-add, cong-cancel, cong-mod, cong-same, same-cong, cong-small, cong-zero, zero-cong, _⨾_}
+use Rattle.numbers.proofs.Congruences.{cong-eq, cong-sym, cong-add, cong-cancel, cong-mod, cong-same, same-cong, cong-small, cong-zero, zero-cong, cong-down, _⨾_}
 use Rattle.numbers.proofs.PrimePowers.{power-apart, powers-divide}
 
 -- ---- two congruent numbers, as one and a step from it
@@ -30,13 +30,7 @@ module _ {m : ℕ} where
   dvd-step : (x d : ℕ) → m ∣ d → Cong m x (x + d)
   dvd-step x d h = cong-eq (omega arith) ⨾ cong-add (cong-eq {x = x} refl) (cong-sym (zero-cong d h))
 
--- what is congruent modulo a number is so modulo its divisors
-pub cong-down : {n : ℕ} (m : ℕ) {x y : ℕ} → m ∣ n → Cong n x y → Cong m x y
-cong-down m h c =
-    let (q, e) = quotient m h in
-    record { l = c .l * q; r = c .r * q; eq = omega (arith, c .eq, ap (λ (t : ℕ). c .l * t) e, ap (λ (t : ℕ). c .r * t) e) }
-
--- and what is so modulo every full prime power is so modulo the number
+-- what is congruent modulo every full prime power is so modulo the number
 cong-powers : {n : ℕ} → 0 < n → (x y : ℕ) → ((p q : ℕ) → FullPower n p q → Cong q x y) → Cong n x y
 cong-powers pos =
     by-steps (λ x y f each. cong-sym (f (λ p q full. cong-sym (each p q full))))
@@ -139,10 +133,9 @@ permutes-powers φ {n} pos respects = (
     again x = φ (x % n)
 
     both : PermutesModulo again n ↔ ((p q : ℕ) → FullPower n p q → PermutesModulo again q)
-    both = whole-powers again pos (λ m h x y e. respects m h (x % n) (y % n) (mod-lt x pos) (mod-lt y pos) (sym (down m h x) ∙ e ∙ down m h y))
-      where
-        down : (m : ℕ) → m ∣ n → (x : ℕ) → x % m ≡ x % n % m
-        down m h x = cong-same (cong-down m h (cong-mod n x))
+    both =
+        whole-powers again pos
+        (λ m h x y e. respects m h (x % n) (y % n) (mod-lt x pos) (mod-lt y pos) (mod-mod-of-dvd m x h ∙ e ∙ sym (mod-mod-of-dvd m y h)))
 
     within : (q : ℕ) {p : ℕ} → FullPower n p q → q ≤ n
     within q full = le-of-dvd pos (full .divides)

@@ -2,12 +2,12 @@
 use mathlib.Core.Path.{_≡_, refl, sym, ap, _∙_}
 use Prim.Native.Nat.{ℕ, _+_, _-_, _*_, _/_, _%_, _≤_, _<_, _∣_}
 use native.Mathlib.Nat.{mul-le-mul, dvd-mul-right, dvd-mul-right-of-dvd, div-add-mod, mod-lt, le-of-dvd}
-use native.Mathlib.Decide.{decLt}
 use native.Mathlib.Omega.{arith}
 use Rattle.numbers.proofs.Congruences.{cong-eq, cong-sym, cong-mod, cong-mul, cong-times, cong-same, same-cong, cong-zero, zero-cong, cong-cancel, cong-add, cong-dvd, _⨾_}
 use Rattle.numbers.proofs.Residues.{Respects}
 use Rattle.triples.specs.declared.Triple.{Triple}
 use Rattle.permuting.specs.Formulas.{Permutes}
+use Rattle.permuting.proofs.Formulas.{permutes-apart}
 use Rattle.triples.specs.Shuffles.{triple, f, quadratic}
 
 -- f before the remainder
@@ -71,13 +71,6 @@ clash {t} c permutes =
     omega (arith, c .some, c .less, le-of-dvd {n = c .x + c .d - c .x} (omega (arith, c .some)) dv)
 
 pub apart : (t : Triple) → ((x d : ℕ) → 0 < d → d < t .k → ¬ (t .k ∣ d * slope t x d)) → Permutes (quadratic t)
-apart t h x y lx ly e = go (decLt x y) (decLt y x)
-  where
-    up : (a b : ℕ) → a < b → b < t .k → f t a ≡ f t b → ⊥
-    up a b l m e =
-        h a (b - a) (omega arith) (omega arith) (differ t a (b - a) (e ∙ ap (λ (n : ℕ). f t n) (omega arith)))
-
-    go : Dec (x < y) → Dec (y < x) → x ≡ y
-    go (yes l) r = absurd (up x y l ly e)
-    go (no l) (yes m) = absurd (up y x m lx (sym e))
-    go (no l) (no m) = omega arith
+apart t h =
+    permutes-apart (quadratic t)
+    (λ i j l m e. h i (j - i) (omega arith) (omega arith) (differ t i (j - i) (e ∙ ap (λ (n : ℕ). f t n) (omega arith))))
