@@ -70,8 +70,8 @@ REASON(explain_table, plain_explain_table)
         struct qpp_value v = CALL;                         \
         answer.number = v.number, answer.degree = v.value; \
     }
-VALUE(our_address, qpp_address(r->k, r->f1, r->f2, r->k - 1))
-VALUE(plain_address, plain_address(r->k, r->f1, r->f2, r->k - 1))
+VALUE(our_address, qpp_address(r->k, r->f1, r->f2, UINT32_MAX))
+VALUE(plain_address, plain_address(r->k, r->f1, r->f2, UINT32_MAX))
 VALUE(our_reciprocal, qpp_reciprocal(r->k, r->f1, r->f2))
 VALUE(plain_reciprocal, plain_reciprocal(r->k, r->f1, r->f2))
 VALUE(our_spread, qpp_spread(r->k, r->f1, r->f2))

@@ -135,11 +135,9 @@ struct qpp_reason plain_explain_table(uint32_t k, uint32_t f1, uint32_t f2) {
 
 struct qpp_value plain_address(uint32_t k, uint32_t f1, uint32_t f2, uint32_t x) {
     uint32_t number = judge(k, f1, f2);
-    if (number == QPP_DONE && x >= k)
-        number = QPP_NO_POSITION;
     if (number != QPP_DONE)
         return (struct qpp_value){number, 0};
-    return (struct qpp_value){QPP_DONE, place(k, f1, f2, x)};
+    return (struct qpp_value){QPP_DONE, place(k, f1, f2, x % k)};
 }
 
 static inline uint32_t unit(uint32_t k, uint32_t a) {

@@ -29,7 +29,7 @@ extern "C" {
 #define QPP_NO_SHUFFLE 3u         /* f does not permute the positions */
 #define QPP_NO_BLOCK 4u           /* the block's length is not K */
 #define QPP_NO_SCRATCH 5u         /* the scratch is shorter than K/8 bytes, rounded up */
-#define QPP_NO_POSITION 6u        /* the position is K or more */
+#define QPP_NO_POSITION 6u        /* the position of a walker made by hand is K or more */
 #define QPP_NO_LIST 7u            /* the list is shorter than K entries, or than Q for ARP shifts */
 #define QPP_NOTHING_TO_EXPLAIN 8u /* f permutes the positions */
 
@@ -87,7 +87,10 @@ uint32_t qpp_accept(uint32_t k, uint32_t f1, uint32_t f2);
  */
 struct qpp_reason qpp_explain(uint32_t k, uint32_t f1, uint32_t f2);
 
-/* The address f(x) of the position x. Refusals 1, 2, 3, 6. */
+/*
+ * The address f(x mod K) of the position x, any that a running counter gives: it need not return to zero at a block's end.
+ * Refusals 1, 2, 3.
+ */
 struct qpp_value qpp_address(uint32_t k, uint32_t f1, uint32_t f2, uint32_t x);
 
 /* The r below K with r*f1 mod K = 1, f1 of the odd form. Refusals 1, 2, 3. */

@@ -19,8 +19,12 @@ pub fn write(out: &mut impl Write) -> io::Result<()> {
     out.write_all(&lines.0.join(&b'\n'))
 }
 
-/// Both sides of every limit of a coefficient or a position.
+/// Both sides of every limit of a coefficient or a walker's position.
 const EDGES: [u32; 6] = [0, 1, 2, 8191, 8192, u32::MAX];
+
+/// Both sides of 2 to the 31st, and the last five that a counter comes to.
+const LATE: [u32; 7] =
+    [(1 << 31) - 1, 1 << 31, u32::MAX - 4, u32::MAX - 3, u32::MAX - 2, u32::MAX - 1, u32::MAX];
 
 /// Triples that the scope names or that are large.
 const CHOSEN: [(u32, u32, u32); 9] = [
@@ -56,8 +60,13 @@ fn triples_past(lengths: RangeInclusive<u32>, past: u32) -> Vec<Triple> {
     lengths.flat_map(pairs).collect()
 }
 
-fn all_triples(lengths: RangeInclusive<u32>) -> Vec<Triple> {
+pub fn all_triples(lengths: RangeInclusive<u32>) -> Vec<Triple> {
     triples_past(lengths, 0)
+}
+
+/// Three times around and one more, and the late ones.
+pub fn counter_positions(k: u32) -> Vec<u32> {
+    (0..=3 * k).chain(LATE).collect()
 }
 
 fn edge_triples() -> Vec<Triple> {
@@ -113,17 +122,17 @@ impl Lines {
         }
     }
 
-    /// Each coefficient at K as well; every position of a shuffle and the one past the last.
+    /// Each coefficient at K as well.
     fn triples(&mut self) {
         for t in triples_past(1..=24, 1) {
-            let positions = if t.acceptance() == DONE { (0..=t.k).collect() } else { vec![0, t.k] };
+            let positions = if t.acceptance() == DONE { counter_positions(t.k) } else { vec![0, t.k] };
             self.triple(t, &positions);
         }
         for t in edge_triples() {
             self.triple(t, &EDGES);
         }
         for t in chosen() {
-            self.triple(t, &[0, 1, 8, 9, 1503, 6015, 8191, 8192]);
+            self.triple(t, &[&[0, 1, 8, 9, 1503, 6015, 8191, 8192, 65535, 65536][..], &LATE].concat());
         }
     }
 

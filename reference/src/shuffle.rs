@@ -62,16 +62,13 @@ impl Triple {
         DONE
     }
 
-    /// Number and value; tests 1, 2, 3, 6.
+    /// Number and value; tests 1, 2, 3. The position is any that a running counter gives.
     pub fn address(self, x: u32) -> (u32, u32) {
         let number = self.acceptance();
         if number != DONE {
-            (number, 0)
-        } else if x >= self.k {
-            (BAD_POSITION, 0)
-        } else {
-            (DONE, self.f(x))
+            return (number, 0);
         }
+        (DONE, self.f(x % self.k))
     }
 
     /// The odd form of an accepted triple.

@@ -77,8 +77,27 @@ fn address_cases() {
     assert_eq!(t(4, 1, 2).values(), [0, 3, 2, 1]);
     assert_eq!(t(6, 2, 3).values(), [0, 5, 4, 3, 2, 1]);
     assert_eq!(t(9, 1, 3).address(8), (DONE, 2));
-    assert_eq!(t(9, 1, 3).address(9), (BAD_POSITION, 0));
+    assert_eq!(t(9, 1, 3).address(9), (DONE, 0));
+    assert_eq!(t(9, 1, 3).address(4294967295), (DONE, 3));
+    assert_eq!(t(9, 1, 1).address(9), (NOT_PERMUTING, 0));
     assert_eq!(t(40, 3, 10).reciprocal(), (DONE, 27));
+}
+
+/// f at the position itself, in 128 bits, and the walker that has made as many steps.
+#[test]
+fn positions_past_the_block() {
+    let wide = |t: Triple, x: u128| (t.f1 as u128 * x + t.f2 as u128 * x * x) % t.k as u128;
+    for triple in ask_input::all_triples(2..=24).into_iter().filter(|t| t.acceptance() == DONE) {
+        let mut walker = start(triple).1;
+        for x in 0..=3 * triple.k {
+            let (number, address, next) = step(walker);
+            assert_eq!(triple.address(x), (number, address));
+            walker = next;
+        }
+        for x in ask_input::counter_positions(triple.k) {
+            assert_eq!(triple.address(x), (DONE, wide(triple, x as u128) as u32));
+        }
+    }
 }
 
 #[test]
@@ -234,7 +253,7 @@ fn lines_that_are_no_question() {
 fn ask_input_is_as_meant() {
     let mut input = Vec::new();
     ask_input::write(&mut input).unwrap();
-    assert!(!input.ends_with(b"\n") && input.len() < 2_200_000);
+    assert!(!input.ends_with(b"\n") && input.len() < 2_600_000);
     let text = String::from_utf8_lossy(&input);
     let answers = answers(&input);
     let mut numbers = BTreeSet::new();
@@ -251,7 +270,7 @@ fn ask_input_is_as_meant() {
     let refusals = [
         ("accept", "0123"),
         ("explain", "0128"),
-        ("address", "01236"),
+        ("address", "0123"),
         ("reciprocal", "0123"),
         ("spread", "0123"),
         ("inverse", "0123"),

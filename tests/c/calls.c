@@ -170,15 +170,41 @@ static void values(void) {
     CHECK(qpp_spread(40, 3, 10).value == 3);
     t = (struct triple){8, 1, 4};
     CHECK(qpp_spread(8, 1, 4).value == 2);
-    /* 6: the position, after the triple */
-    t = (struct triple){9, 1, 3};
+}
+
+static void address_at(struct triple t, uint32_t x) {
+    struct qpp_value r = qpp_address(t.k, t.f1, t.f2, x), model = model_address(t, x);
+    CHECK(r.number == model.number && r.value == model.value);
+}
+
+/* A running counter goes past the end of a block, and a walker goes with it. */
+static void counter(struct triple t) {
+    static const uint32_t late[] = {0x7fffffff, 0x80000000, 0xfffffffb, 0xfffffffc, 0xfffffffd, 0xfffffffe, 0xffffffff};
+    struct qpp_walker w = qpp_walker_start(t.k, t.f1, t.f2).walker;
+    for (uint32_t x = 0; x <= 3 * t.k; x++) {
+        struct qpp_step s = qpp_walker_step(w);
+        address_at(t, x);
+        CHECK(s.number == 0 && s.address == qpp_address(t.k, t.f1, t.f2, x).value);
+        w = s.walker;
+    }
+    for (size_t i = 0; i < sizeof late / sizeof *late; i++)
+        address_at(t, late[i]);
+}
+
+static void counters(void) {
+    struct triple t = {9, 1, 3};
     CHECK(qpp_address(9, 1, 3, 8).number == 0 && qpp_address(9, 1, 3, 8).value == 2);
-    CHECK(qpp_address(9, 1, 3, 9).number == 6 && qpp_address(9, 1, 3, 9).value == 0);
-    CHECK(qpp_address(9, 1, 3, 0xffffffff).number == 6);
+    CHECK(qpp_address(9, 1, 3, 9).number == 0 && qpp_address(9, 1, 3, 9).value == 0);
+    CHECK(qpp_address(9, 1, 3, 0xffffffff).number == 0 && qpp_address(9, 1, 3, 0xffffffff).value == 3);
     CHECK(qpp_address(9, 1, 1, 9).number == 3 && qpp_address(9, 9, 1, 9).number == 2);
-    t = (struct triple){8192, 8191, 8190};
-    CHECK(qpp_address(8192, 8191, 8190, 8191).value == model_f((struct triple){8192, 8191, 8190}, 8191));
-    CHECK(qpp_address(8192, 1, 2, 8192).number == 6);
+    for (uint32_t k = 2; k <= 24; k++)
+        for (uint32_t f1 = 0; f1 < k; f1++)
+            for (uint32_t f2 = 0; f2 < k; f2++) {
+                t = (struct triple){k, f1, f2};
+                if (model_accept(t) == 0)
+                    counter(t);
+            }
+    counter((struct triple){8192, 8191, 8190});
 }
 
 /* Addresses written into a list of n entries; the entry after them stays. */
@@ -317,6 +343,7 @@ void test_calls(void) {
     inverses();
     printed_inverse();
     values();
+    counters();
     lists();
     walkers();
     blocks();

@@ -76,10 +76,8 @@ struct qpp_reason model_explain(struct triple t) {
 
 struct qpp_value model_address(struct triple t, uint32_t x) {
     struct qpp_value r = {model_accept(t), 0};
-    if (r.number == 0 && x >= t.k)
-        r.number = 6;
     if (r.number == 0)
-        r.value = model_f(t, x);
+        r.value = model_f(t, x % t.k);
     return r;
 }
 

@@ -82,7 +82,7 @@ static size_t near(size_t n) {
 
 static void numbers(struct triple t) {
     CHECK(qpp_accept(t.k, t.f1, t.f2) == model_accept(t));
-    uint32_t x = below(4) ? below(t.k ? t.k : 1) : below(2) ? edge(t.k) : any();
+    uint32_t x = below(2) ? below(t.k ? t.k : 1) : below(2) ? edge(t.k) : any();
     struct qpp_value address = qpp_address(t.k, t.f1, t.f2, x), model = model_address(t, x);
     CHECK(address.number == model.number && address.value == model.value);
     struct qpp_value reciprocal = qpp_reciprocal(t.k, t.f1, t.f2);

@@ -191,7 +191,7 @@ fn main() {
     // a walk, the list and the addresses one by one agree
     small.addresses(&mut list).unwrap();
     let walked: Vec<u32> = small.walk().unwrap().take(80).collect();
-    assert!((0..80).all(|x| walked[x] == list[x % 40] as u32 && Ok(walked[x]) == small.address(x as u32 % 40)));
+    assert!((0..80).all(|x| walked[x] == list[x % 40] as u32 && Ok(walked[x]) == small.address(x as u32)));
 
     for s in [small, Shuffle(6, 2, 3), Shuffle(1504, 23, 94), Shuffle(6144, 263, 480), Shuffle(8192, 1, 2)] {
         round_trip(s, c::qpp_interleave_u8, c::qpp_deinterleave_u8, |i| (i * 7) as u8);
@@ -204,7 +204,7 @@ fn main() {
     assert_eq!(Shuffle(3, 1, 1).spread(), Err(Refused(3)));
     assert_eq!(small.moved(c::qpp_interleave_u8, &mut [0; 39], &mut [0; 5]), Err(Refused(4)));
     assert_eq!(small.moved(c::qpp_interleave_u8, &mut [0; 40], &mut [0; 4]), Err(Refused(5)));
-    assert_eq!(small.address(40), Err(Refused(6)));
+    assert_eq!(unsafe { c::qpp_walker_step(c::Walker { k: 40, f1: 3, f2: 10, at: 40 }) }.number, 6);
     assert_eq!(small.addresses(&mut list[..39]), Err(Refused(7)));
     assert_eq!(small.explain(), Err(Refused(8)));
     assert_eq!(Walk(c::Walker { k: 40, f1: 3, f2: 10, at: 40 }).next(), None);

@@ -1,7 +1,7 @@
 -- No second answer fits: one law for each call. (Of acceptance: `acceptance-one`, beside the table.)
-use mathlib.Core.Path.{_≡_, sym, _∙_}
+use mathlib.Core.Path.{_≡_, refl, sym, ap, _∙_}
 use mathlib.Core.List.{List}
-use Prim.Native.Nat.{ℕ}
+use Prim.Native.Nat.{ℕ, _%_}
 use Rattle.numbers.proofs.Reciprocals.{reciprocal-one}
 use Rattle.polynomials.proofs.Inverses.{inverted-one}
 use Rattle.arp.proofs.ArpForms.{arp-one}
@@ -27,8 +27,12 @@ use Rattle.refusals.proofs.Answers.{answer-one}
 value-same : {r s : Value} → (r .number ≡ s .number) × (r .value ≡ s .value) → r ≡ s
 value-same e = λ i. record { number = e .0 i; value = e .1 i }
 
-pub address-one : (φ : Formula) {x : ℕ} {r s : Value} → Address φ x r → Address φ x s → r ≡ s
-address-one φ a b = value-same (answer-one (λ p q. p ∙ sym q) (λ p q. p ∙ sym q) a b)
+-- positions with the same remainder by K have the same answer
+pub address-of-remainder : (φ : Formula) (x y : ℕ) {r s : Value} → x % φ .length ≡ y % φ .length → Address φ x r → Address φ y s → r ≡ s
+address-of-remainder φ x y e a b = value-same (answer-one (λ p q. p ∙ ap (φ .map) e ∙ sym q) (λ p q. p ∙ sym q) a b)
+
+pub address-one : (φ : Formula) (x : ℕ) {r s : Value} → Address φ x r → Address φ x s → r ≡ s
+address-one φ x = address-of-remainder φ x x refl
 
 pub reciprocal-of-one : {t : Triple} {r s : Value} → ReciprocalOf t r → ReciprocalOf t s → r ≡ s
 reciprocal-of-one {t} {r} {s} a b =

@@ -1,7 +1,7 @@
 -- To be believed: what each call promises, on every input. Where a formula of any kind has the call, the promise is said of it.
 use mathlib.Core.Path.{_≡_}
 use mathlib.Core.List.{List, [], _∷_}
-use Prim.Native.Nat.{ℕ}
+use Prim.Native.Nat.{ℕ, _%_}
 use lib.ListN.{length, replicate}
 use Rattle.numbers.specs.Reciprocals.{Reciprocal}
 use Rattle.permuting.specs.Formulas.{Formula}
@@ -13,15 +13,15 @@ use Rattle.polynomials.specs.Inverses.{Inverted}
 use Rattle.arp.specs.Arp.{Period, Arp}
 use Rattle.spreading.specs.Spreads.{Spread}
 use Rattle.explaining.specs.Reasons.{FirstCollision, LeastFailing}
-use Rattle.refusals.specs.Refusals.{Answer, range-tests, shuffle-tests, block-tests, no-position, no-list, nothing-to-explain}
+use Rattle.refusals.specs.Refusals.{Answer, range-tests, shuffle-tests, block-tests, no-list, nothing-to-explain}
 use Rattle.qpp.specs.declared.shuffles.Value.{Value}
 use Rattle.qpp.specs.declared.inverses.InverseForm.{InverseForm}
 use Rattle.qpp.specs.declared.lists.ArpForm.{ArpForm}
 use Rattle.qpp.specs.declared.explanations.Reason.{Reason}
 
--- The address of a position.
+-- The address of a position from the running counter: that of its remainder by K.
 abbrev pub Address : Formula → ℕ → Value → Type 0
-Address φ x r = Answer (shuffle-tests φ) (no-position (φ .length) x ∷ []) (r .number) (r .value ≡ φ .map x) (r .value ≡ 0)
+Address φ x r = Answer (shuffle-tests φ) [] (r .number) (r .value ≡ φ .map (x % φ .length)) (r .value ≡ 0)
 
 -- The address list: the number, and the list after the call.
 abbrev pub AddressList : Formula → List ℕ → ℕ → List ℕ → Type 0

@@ -2,6 +2,7 @@
 use refusals::DONE;
 use triples::Triple;
 ghost use mathlib.Core.Path.{_≡_};
+ghost use Prim.Native.Nat.{_%_, _<_};
 ghost use Rattle.triples.specs.Shuffles.{triple, quadratic};
 ghost use Rattle.refusals.specs.Refusals.{Acceptance};
 ghost use Rattle.qpp.specs.Promises.{Address, ReciprocalOf, SpreadOf};
@@ -27,6 +28,14 @@ pub extern "C" fn qpp_accept(k: u32, f1: u32, f2: u32) -> u32
     refusals::accept(Triple { k, f1, f2 })
 }
 
+// Where a counter stands in its block: the radio's does not return to zero at a block's end.
+fn in_block(k: u32, x: u32) -> u32
+    requires { ⌜ 0 < k ⌝ }
+    ensures { λ r. ⌜ (r ≡ x % k) × (r < k) ⌝ }
+{
+    x % k
+}
+
 // The address of the position x.
 #[no_mangle]
 pub extern "C" fn qpp_address(k: u32, f1: u32, f2: u32, x: u32) -> Value
@@ -37,13 +46,10 @@ pub extern "C" fn qpp_address(k: u32, f1: u32, f2: u32, x: u32) -> Value
     if number != DONE {
         return refused(number);
     }
-    let number = refusals::position(k, x);
-    if number != DONE {
-        return refused(number);
-    }
+    let value = triples::place(t, in_block(k, x) as usize) as u32;
     Value {
         number: DONE,
-        value: triples::place(t, x as usize) as u32,
+        value,
     }
 }
 
