@@ -88,7 +88,7 @@ uint32_t qpp_accept(uint32_t k, uint32_t f1, uint32_t f2);
 struct qpp_reason qpp_explain(uint32_t k, uint32_t f1, uint32_t f2);
 
 /*
- * The address f(x mod K) of the position x, any that a running counter gives: it need not return to zero at a block's end.
+ * The address f(x mod K) of the position x. Any x will do: a counter need not return to zero at a block's end.
  * Refusals 1, 2, 3.
  */
 struct qpp_value qpp_address(uint32_t k, uint32_t f1, uint32_t f2, uint32_t x);

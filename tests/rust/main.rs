@@ -192,6 +192,7 @@ fn main() {
     small.addresses(&mut list).unwrap();
     let walked: Vec<u32> = small.walk().unwrap().take(80).collect();
     assert!((0..80).all(|x| walked[x] == list[x % 40] as u32 && Ok(walked[x]) == small.address(x as u32)));
+    assert_eq!(small.address(u32::MAX), Ok(15)); // f(15)
 
     for s in [small, Shuffle(6, 2, 3), Shuffle(1504, 23, 94), Shuffle(6144, 263, 480), Shuffle(8192, 1, 2)] {
         round_trip(s, c::qpp_interleave_u8, c::qpp_deinterleave_u8, |i| (i * 7) as u8);

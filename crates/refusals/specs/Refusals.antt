@@ -32,6 +32,7 @@ no-block k size = record { number = 4; applies = size ≢ k }
 abbrev pub no-scratch : ℕ → ℕ → Test
 no-scratch bytes size = record { number = 5; applies = size < bytes }
 
+-- Of a walker made by hand.
 abbrev pub no-position : ℕ → ℕ → Test
 no-position k x = record { number = 6; applies = k ≤ x }
 

@@ -94,7 +94,7 @@ pub fn sizes(k: u32, block: usize, scratch: usize) -> u32
     DONE
 }
 
-// Is x one of k positions?
+// Is x, where a walker made by hand stands, one of k positions?
 pub fn position(k: u32, x: u32) -> u32
     ensures { λ number. ⌜ First (no-position k x ∷ []) number ⌝ }
 {
