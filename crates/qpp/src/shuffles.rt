@@ -46,10 +46,9 @@ pub extern "C" fn qpp_address(k: u32, f1: u32, f2: u32, x: u32) -> Value
     if number != DONE {
         return refused(number);
     }
-    let value = triples::place(t, in_block(k, x) as usize) as u32;
     Value {
         number: DONE,
-        value,
+        value: triples::place(t, in_block(k, x) as usize) as u32,
     }
 }
 
