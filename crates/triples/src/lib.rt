@@ -1,5 +1,6 @@
 // What a triple of numbers means: where it sends a position.
 mod listing;
+pub mod striding;
 
 pub use listing::fill;
 ghost use mathlib.Core.Path.{_≡_};

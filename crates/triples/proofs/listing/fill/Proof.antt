@@ -1,5 +1,5 @@
--- The loop's invariant, `Listing`: the places below x are written, the others are not, and value and rise are those of x. What is left of
--- the list falls, since x runs along it, and at x = places it ends.
+-- The loop's invariant, `Listing`: the places below x are written, the others are not, and the stride stands at x. What is left of the
+-- list falls, since x runs along it, and at x = places it ends.
 use Prim.Native.Nat.{_-_}
 use native.Mathlib.Omega.{arith}
 use lib.ListN.{length}
@@ -9,22 +9,19 @@ use Rattle.triples.proofs.listing.fill.Statement.{statement}
 use Rattle.triples.proofs.listing.fill.Tie as tie
 
 abbrev Inv-loop : tie.InvT-loop
-Inv-loop t places list₀ twice rise₀ value₀ x₀ list rise value x = Listing t places list₀ list value rise x
+Inv-loop places list₀ at₀ x₀ list at x = Listing places list₀ list at₀ at x
 
 abbrev μ-loop : tie.MeasureT-loop
-μ-loop t places list₀ twice rise₀ value₀ x₀ list rise value x = length list₀ - x
+μ-loop places list₀ at₀ x₀ list at x = length list₀ - x
 
 loop-holds : tie.Need-loop-holds Inv-loop μ-loop
-loop-holds c = listing-start _ _ (omega arith) (c .plus2 .ensures .0) (c .plus2 .ensures .1)
+loop-holds c = listing-start (c .start .ensures .sound)
 
 loop-again : tie.Need-loop-again Inv-loop μ-loop
-loop-again c =
-    let l = c .before .before .before in
-    listing-step _ _ _ _ (l .loop .inv) (omega arith) (omega arith) (l .before .before .plus .ensures .0) (c .before .plus3 .ensures .0) (c .before .plus3 .ensures .1)
-    (c .plus4 .ensures .0) (c .plus4 .ensures .1)
+loop-again c = listing-step (c .before .before .before .loop .inv) (omega arith) (omega arith) (c .next .ensures)
 
 returns : tie.Need-returns Inv-loop μ-loop
-returns c = listing-end (c .before .loop .inv) (omega arith)
+returns c = listing-end _ (c .before .loop .inv) (omega arith) (c .before .before .start .ensures)
 
 pub fill-spec : {M : Type 1} → statement M
 fill-spec =
@@ -33,12 +30,10 @@ fill-spec =
     Inv-loop
     μ-loop
     (λ c κs. search needs)
-    (λ c κs. search needs)
     loop-holds
     (λ c. search needs)
     (λ c. search needs)
     (λ c. search needs)
-    (λ c κs. search needs)
     (λ c κs. search needs)
     (λ c. search needs)
     (λ c. search needs)

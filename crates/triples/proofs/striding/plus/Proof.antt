@@ -3,8 +3,8 @@ use mathlib.Core.Path.{sym, _∙_}
 use native.Mathlib.Nat.{mod-eq-of-lt, mod-eq-sub-mod}
 use native.Mathlib.Omega.{arith}
 use borrow.Author.Needs.{needs}
-use Rattle.triples.proofs.listing.plus.Statement.{statement}
-use Rattle.triples.proofs.listing.plus.Tie as tie
+use Rattle.triples.proofs.striding.plus.Statement.{statement}
+use Rattle.triples.proofs.striding.plus.Tie as tie
 
 returns : tie.Need-returns
 returns c = (sym (mod-eq-of-lt (omega arith)), omega arith)
