@@ -4,3 +4,4 @@ pub mod Tests
 pub mod Answers
 pub mod Acceptance
 pub mod Lengths
+pub mod Largest

@@ -1,3 +1,4 @@
--- To be believed: `Refusals`. `Leads` serves inside.
+-- To be believed: `Refusals`. `Leads` and `Largest` serve inside.
 pub mod Refusals
 pub mod Leads
+pub mod Largest

@@ -3,6 +3,7 @@ use mathlib.Core.Path.{_≡_}
 use mathlib.Core.Logic.{_⊎_, _≢_}
 use mathlib.Core.List.{List, [], _∷_, _++_}
 use Prim.Native.Nat.{ℕ, _≤_, _<_}
+use lib.ListN.{length, getD}
 use Rattle.permuting.specs.Formulas.{Formula, Permutes}
 
 -- A row of the table: a number, and when it is given.
@@ -29,6 +30,10 @@ no-shuffle φ = record { number = 3; applies = ¬ Permutes φ }
 abbrev pub no-block : ℕ → ℕ → Test
 no-block k size = record { number = 4; applies = size ≢ k }
 
+-- Where bits are wanted, a byte of the block is neither 0 nor 1.
+abbrev pub no-bits : List ℕ → Test
+no-bits block = record { number = 4; applies = (i : ℕ) × (i < length block) × (1 < getD block i 0) }
+
 abbrev pub no-scratch : ℕ → ℕ → Test
 no-scratch bytes size = record { number = 5; applies = size < bytes }
 
@@ -42,6 +47,10 @@ no-list Needed size = record { number = 7; applies = (n : ℕ) × Needed n × (s
 -- An accepted formula has nothing to be explained.
 abbrev pub nothing-to-explain : Formula → Test
 nothing-to-explain φ = record { number = 8; applies = Permutes φ }
+
+-- A standard has rows for some lengths; `Has` says that it has one for that of the call.
+abbrev pub no-row : Type 0 → Test
+no-row Has = record { number = 9; applies = ¬ Has }
 
 -- n is the number of the first test that applies, and 0 where none does.
 abbrev pub First : List Test → ℕ → Type 0

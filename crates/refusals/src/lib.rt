@@ -1,5 +1,8 @@
 // The table of refusals. Each function gives the number that its tests lead to, in the order of the table; a call asks one after the
 // other.
+mod binary;
+
+pub use binary::bits;
 use triples::Triple;
 ghost use mathlib.Core.Path.{_≡_};
 ghost use mathlib.Core.List.{[], _∷_};
@@ -26,6 +29,8 @@ pub const NO_POSITION: u32 = 6;
 pub const NO_LIST: u32 = 7;
 
 pub const NOTHING_TO_EXPLAIN: u32 = 8;
+
+pub const NO_ROW: u32 = 9;
 
 const SHORTEST: u32 = 2;
 
