@@ -1,0 +1,3 @@
+-- To be believed: `Rows`. `Search` serves inside.
+pub mod Rows
+pub mod Search
