@@ -14,7 +14,7 @@ use Rattle.triples.specs.Shuffles.{f}
 use Rattle.triples.specs.Strides.{Sound, At, Follows}
 use Rattle.coding.specs.Coders.{Coding}
 use Rattle.coding.specs.Streams.{block-of, ended, Streams}
-use Rattle.coding.specs.States.{Ruled, Step, state-at, coded-at, parity-at, TailOf, Ends}
+use Rattle.coding.specs.States.{Table, next, parity, Step, state-at, coded-at, parity-at, TailOf, Ends}
 use Rattle.coding.specs.Passes.{Ready, Passed, Extended, Tailed}
 use Rattle.coding.specs.declared.encoding.States.{States}
 use Rattle.coding.specs.declared.trellis.Coded.{Coded}
@@ -29,7 +29,8 @@ shuffled t input i = block-of input (f t i)
 
 -- the places below i are written, the others are not, and coders and addresses stand at i
 pub record Pass (t : Triple) (nexts parities input before0 before1 before2 d0 d1 d2 : List ℕ) (s : Stride) (first second i : ℕ) : Type 0 where
-  pub ruled : Ruled nexts parities
+  pub nexts-are : Table next nexts
+  pub parities-are : Table parity parities
   pub ready : Ready t input (length d0) (length d1) (length d2)
   pub within : i ≤ t .k
   pub at : At t i s
@@ -42,12 +43,13 @@ pub record Pass (t : Triple) (nexts parities input before0 before1 before2 d0 d1
   pub stream2 : Written (parity-at (t .k) (shuffled t input)) i before2 d2
 
 module _ {t : Triple} {nexts parities input : List ℕ} where
-  pub pass-start : {d0 d1 d2 : List ℕ} {s : Stride} → Ruled nexts parities → Ready t input (length d0) (length d1) (length d2) → At t 0 s
+  pub pass-start : {d0 d1 d2 : List ℕ} {s : Stride} → Table next nexts → Table parity parities → Ready t input (length d0) (length d1) (length d2) → At t 0 s
       → Pass t nexts parities input d0 d1 d2 d0 d1 d2 s 0 0 0
   unfolding state-at
-  pass-start ruled ready at =
+  pass-start nexts-are parities-are ready at =
       record {
-        ruled = ruled;
+        nexts-are = nexts-are;
+        parities-are = parities-are;
         ready = ready;
         within = omega arith;
         at = at;
@@ -60,17 +62,18 @@ module _ {t : Triple} {nexts parities input : List ℕ} where
         stream2 = written-none;
       }
 
-  pub pass-step : {before0 before1 before2 d0 d1 d2 : List ℕ} {s next : Stride} {first second i : ℕ} {a b : Coded}
+  pub pass-step : {before0 before1 before2 d0 d1 d2 : List ℕ} {s s′ : Stride} {first second i : ℕ} {a b : Coded}
       → Pass t nexts parities input before0 before1 before2 d0 d1 d2 s first second i → i < t .k → Step first (block-of input i) a
-      → Step second (block-of input (s .address)) b → Follows s next
-      → Pass t nexts parities input before0 before1 before2 (set d0 i (block-of input i)) (set d1 i (a .parity)) (set d2 i (b .parity)) next (a .state) (b .state) (i + 1)
+      → Step second (block-of input (s .address)) b → Follows s s′
+      → Pass t nexts parities input before0 before1 before2 (set d0 i (block-of input i)) (set d1 i (a .parity)) (set d2 i (b .parity)) s′ (a .state) (b .state) (i + 1)
   pass-step {d0 = d0} {d1 = d1} {d2 = d2} {s = s} {i = i} {a = a} {b = b} p below one two follows =
       let c = coded-step (t .k) (block-of input) i (p .first-is) (sym (coded-inside (t .k) (block-of input) below)) one in
       let d =
       coded-step (t .k) (shuffled t input) i (p .second-is) (ap (block-of input) (p .at .address) ∙ sym (coded-inside (t .k) (shuffled t input) below)) two in
       let r = p .ready in
       record {
-        ruled = p .ruled;
+        nexts-are = p .nexts-are;
+        parities-are = p .parities-are;
         ready =
             record {
               range = r .range;

@@ -9,23 +9,20 @@ use lib.ListN.{length, getD}
 use borrow.Author.Tests.{lt-ltb, le-ltb}
 use Rattle.numbers.proofs.Computation.{every, same-below}
 use Rattle.coding.specs.Coders.{delayed, picked, output, earlier, feedback, fed-back, Coding}
-use Rattle.coding.specs.States.{drawn, cells, fed, entering, next, parity, Ruled, Step, state-at, coded-at, parity-at, TailOf, Ends}
+use Rattle.coding.specs.States.{drawn, cells, fed, entering, next, parity, Table, Step, state-at, coded-at, parity-at, TailOf, Ends}
 use Rattle.coding.specs.declared.trellis.Coded.{Coded}
 
 -- ---- the tables
 
-abbrev pub follows : (ℕ → ℕ → ℕ) → List ℕ → Bool
-follows rule table = every 16 (λ i. eqb (getD table i 0) (rule (i / 2) (i % 2)))
-
-followed : (rule : ℕ → ℕ → ℕ) (table : List ℕ) → T (follows rule table) → (state bit : ℕ) → state < 8 → bit < 2 → getD table (state * 2 + bit) 0 ≡ rule state bit
-followed rule table t state bit s b =
-    let i = state * 2 + bit in
-    same-below 16 (λ i. getD table i 0) (λ i. rule (i / 2) (i % 2)) t i (omega arith) ∙ ap₂ rule {x = i / 2} {y = state} {u = i % 2} {v = bit} (omega arith) (omega arith)
-
--- one test over each table, and it follows the polynomials
-pub ruled : {nexts parities : List ℕ} → length nexts ≡ 16 → length parities ≡ 16 → T (follows next nexts) → T (follows parity parities) → Ruled nexts parities
-ruled {nexts} {parities} n p moves gives =
-    record { nexts-size = n; parities-size = p; moves = followed next nexts moves; gives = followed parity parities gives }
+-- one test over the whole table, and each entry follows the rule
+pub tabled : {rule : ℕ → ℕ → ℕ} {table : List ℕ} → length table ≡ 16 → T (every 16 (λ i. eqb (getD table i 0) (rule (i / 2) (i % 2)))) → Table rule table
+tabled {rule} {table} size test = record { size = size; at = at }
+  where
+    at : (state bit : ℕ) → state < 8 → bit < 2 → getD table (state * 2 + bit) 0 ≡ rule state bit
+    at state bit s b =
+        let i = state * 2 + bit in
+        same-below 16 (λ i. getD table i 0) (λ i. rule (i / 2) (i % 2)) test i (omega arith)
+        ∙ ap₂ rule {x = i / 2} {y = state} {u = i % 2} {v = bit} (omega arith) (omega arith)
 
 pub next-lt : (state bit : ℕ) → state < 8 → next state bit < 8
 next-lt state bit s = omega arith

@@ -30,12 +30,10 @@ next state bit = 4 * entering state bit + state / 2
 abbrev pub parity : ℕ → ℕ → ℕ
 parity state bit = drawn output (cells (entering state bit) state) % 2
 
--- both tables follow the polynomials
-pub record Ruled (nexts parities : List ℕ) : Type 0 where
-  pub nexts-size : length nexts ≡ 16
-  pub parities-size : length parities ≡ 16
-  pub moves : (state bit : ℕ) → state < 8 → bit < 2 → getD nexts (state * 2 + bit) 0 ≡ next state bit
-  pub gives : (state bit : ℕ) → state < 8 → bit < 2 → getD parities (state * 2 + bit) 0 ≡ parity state bit
+-- a table that follows a rule of states and bits
+pub record Table (rule : ℕ → ℕ → ℕ) (table : List ℕ) : Type 0 where
+  pub size : length table ≡ 16
+  pub at : (state bit : ℕ) → state < 8 → bit < 2 → getD table (state * 2 + bit) 0 ≡ rule state bit
 
 -- a bit was coded
 pub record Step (state bit : ℕ) (r : Coded) : Type 0 where

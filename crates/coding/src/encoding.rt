@@ -1,9 +1,9 @@
 // The pass over a block: both coders at once, the second where the shuffle leads.
-use crate::trellis::NEXT;
-use crate::trellis::PARITY;
 use crate::trellis::Tail;
 use crate::trellis::code_bit;
 use crate::trellis::end;
+use crate::trellis::nexts;
+use crate::trellis::parities;
 use triples::Triple;
 use triples::striding::next;
 use triples::striding::start;
@@ -25,8 +25,8 @@ fn code_block(t: Triple, input: &[u8], d0: &mut [u8], d1: &mut [u8], d2: &mut [u
     requires { ⌜ Ready t (now input) (length (now d0)) (length (now d1)) (length (now d2)) ⌝ }
     ensures { λ r. ⌜ Passed t (now (input .entry)) (now (d0 .entry)) (now (d1 .entry)) (now (d2 .entry)) (now (d0 .exit)) (now (d1 .exit)) (now (d2 .exit)) r ⌝ }
 {
-    let nexts = NEXT;
-    let parities = PARITY;
+    let nexts = nexts();
+    let parities = parities();
     let mut at = start(t);
     let mut first = 0;
     let mut second = 0;

@@ -1,13 +1,26 @@
 // A coder: eight states, and a table of what follows each by either bit.
 ghost use mathlib.Core.Path.{_≡_};
 ghost use Prim.Native.Nat.{_<_};
-ghost use Rattle.coding.specs.States.{Ruled, fed, Step, Ends};
+ghost use Rattle.coding.specs.States.{Table, next, parity, fed, Step, Ends};
 
 // The state after each state and bit, and the parity. Entry 2·state + bit; a state holds the three bits that entered last, the newest
 // of weight 4.
-pub const NEXT: [u8; 16] = [0, 4, 4, 0, 5, 1, 1, 5, 2, 6, 6, 2, 7, 3, 3, 7];
+const NEXT: [u8; 16] = [0, 4, 4, 0, 5, 1, 1, 5, 2, 6, 6, 2, 7, 3, 3, 7];
 
-pub const PARITY: [u8; 16] = [0, 1, 0, 1, 1, 0, 1, 0, 1, 0, 1, 0, 0, 1, 0, 1];
+const PARITY: [u8; 16] = [0, 1, 0, 1, 1, 0, 1, 0, 1, 0, 1, 0, 0, 1, 0, 1];
+
+// The tables are handed out, to be taken once and lent: a constant is laid out anew wherever it is named.
+pub fn nexts() -> [u8; 16]
+    ensures { λ table. ⌜ Table next table ⌝ }
+{
+    NEXT
+}
+
+pub fn parities() -> [u8; 16]
+    ensures { λ table. ⌜ Table parity table ⌝ }
+{
+    PARITY
+}
 
 pub struct Coded {
     pub state: usize,
@@ -24,9 +37,8 @@ pub struct Tail {
     pub z2: u8,
 }
 
-// The tables are lent, since a constant one is laid out anew at each use.
 pub fn code_bit(nexts: &[u8; 16], parities: &[u8; 16], state: usize, bit: u8) -> Coded
-    requires { ⌜ Ruled (now nexts) (now parities) × (state < 8) × (bit < 2) ⌝ }
+    requires { ⌜ Table next (now nexts) × Table parity (now parities) × (state < 8) × (bit < 2) ⌝ }
     ensures { λ r. ⌜ Step state bit r ⌝ }
 {
     let at = state * 2 + bit as usize;
@@ -49,8 +61,8 @@ pub fn end(state: usize) -> Tail
     requires { ⌜ state < 8 ⌝ }
     ensures { λ r. ⌜ Ends state r ⌝ }
 {
-    let nexts = NEXT;
-    let parities = PARITY;
+    let nexts = nexts();
+    let parities = parities();
     let x0 = fed_back(state);
     let first = code_bit(&nexts, &parities, state, x0);
     let x1 = fed_back(first.state);

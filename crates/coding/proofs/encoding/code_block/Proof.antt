@@ -1,9 +1,7 @@
 -- The loop's invariant, `Pass`: the places below i are written, and coders and addresses stand at i. What is left of the block falls.
-use mathlib.Core.Path.{refl}
 use Prim.Native.Nat.{_-_}
 use native.Mathlib.Omega.{arith}
 use borrow.Author.Needs.{needs}
-use Rattle.coding.proofs.States.{ruled}
 use Rattle.coding.proofs.Passes.{Pass, pass-start, pass-step, pass-end}
 use Rattle.coding.proofs.encoding.code_block.Statement.{statement}
 use Rattle.coding.proofs.encoding.code_block.Tie as tie
@@ -15,13 +13,14 @@ abbrev μ-loop : tie.MeasureT-loop
 μ-loop t input d0₀ d1₀ d2₀ nexts parities at₀ first₀ second₀ i₀ d0 d1 d2 at first second i = t .k - i
 
 loop-holds : tie.Need-loop-holds Inv-loop μ-loop
-loop-holds c = pass-start (ruled refl refl tt tt) (c .before .before .before .before .before .pre) (c .start .ensures)
+loop-holds c =
+    pass-start (c .before .before .nexts .ensures) (c .before .parities .ensures) (c .before .before .before .before .before .before .before .pre) (c .start .ensures)
 
 code-bit-requires : tie.Need-code-bit-requires Inv-loop μ-loop
-code-bit-requires c κs = let inv = c .before .before .before .before .before .loop .inv in (inv .ruled, inv .first-lt, inv .ready .bits _)
+code-bit-requires c κs = let inv = c .before .before .before .before .before .loop .inv in (inv .nexts-are, inv .parities-are, inv .first-lt, inv .ready .bits _)
 
 code-bit-requires-2 : tie.Need-code-bit-requires-2 Inv-loop μ-loop
-code-bit-requires-2 c κs = let inv = c .before .before .before .before .before .before .before .before .before .loop .inv in (inv .ruled, inv .second-lt, inv .ready .bits _)
+code-bit-requires-2 c κs = let inv = c .before .before .before .before .before .before .before .before .before .loop .inv in (inv .nexts-are, inv .parities-are, inv .second-lt, inv .ready .bits _)
 
 loop-again : tie.Need-loop-again Inv-loop μ-loop
 loop-again c =
@@ -38,6 +37,8 @@ code-block-spec =
     (tie.spec
     Inv-loop
     μ-loop
+    (λ c κs. search needs)
+    (λ c κs. search needs)
     (λ c κs. search needs)
     loop-holds
     (λ c. search needs)

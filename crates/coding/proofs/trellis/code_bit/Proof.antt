@@ -8,13 +8,13 @@ use Rattle.coding.proofs.trellis.code_bit.Tie as tie
 cast-t6 : tie.Need-cast-t6
 cast-t6 c =
     let a = c .before .args in
-    omega (arith, c .before .pre .0 .moves (a .state) (a .bit) (omega arith) (omega arith), next-lt (a .state) (a .bit) (omega arith))
+    omega (arith, c .before .pre .0 .at (a .state) (a .bit) (omega arith) (omega arith), next-lt (a .state) (a .bit) (omega arith))
 
 returns : tie.Need-returns
 returns c =
     let a = c .before .before .args in
-    let moves = c .before .before .pre .0 .moves (a .state) (a .bit) (omega arith) (omega arith) in
-    let gives = c .before .before .pre .0 .gives (a .state) (a .bit) (omega arith) (omega arith) in
+    let moves = c .before .before .pre .0 .at (a .state) (a .bit) (omega arith) (omega arith) in
+    let gives = c .before .before .pre .1 .at (a .state) (a .bit) (omega arith) (omega arith) in
     record {
       state-is = moves;
       parity-is = gives;

@@ -1,19 +1,8 @@
--- Each step is that of `tail-of`, by the tables, which follow the polynomials.
-use mathlib.Core.Path.{refl}
-use native.Mathlib.Omega.{arith}
+-- Each step is that of `tail-of`.
 use borrow.Author.Needs.{needs}
-use Rattle.coding.proofs.States.{ruled, tail-of}
+use Rattle.coding.proofs.States.{tail-of}
 use Rattle.coding.proofs.trellis.end.Statement.{statement}
 use Rattle.coding.proofs.trellis.end.Tie as tie
-
-code-bit-requires : tie.Need-code-bit-requires
-code-bit-requires c κs = (ruled refl refl tt tt, omega arith, omega arith)
-
-code-bit-requires-2 : tie.Need-code-bit-requires-2
-code-bit-requires-2 c κs = (ruled refl refl tt tt, omega arith, omega arith)
-
-code-bit-requires-3 : tie.Need-code-bit-requires-3
-code-bit-requires-3 c κs = (ruled refl refl tt tt, omega arith, omega arith)
 
 returns : tie.Need-returns
 returns c =
@@ -28,9 +17,11 @@ end-spec =
     tie.close
     (tie.spec
     (λ c κs. search needs)
-    code-bit-requires
     (λ c κs. search needs)
-    code-bit-requires-2
     (λ c κs. search needs)
-    code-bit-requires-3
+    (λ c κs. search needs)
+    (λ c κs. search needs)
+    (λ c κs. search needs)
+    (λ c κs. search needs)
+    (λ c κs. search needs)
     returns)
