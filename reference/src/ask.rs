@@ -1,5 +1,6 @@
 //! The ask program: an answer for each line.
 
+use crate::coding::{encode, row};
 use crate::explaining::explain;
 use crate::inverting::inverse;
 use crate::shuffle::*;
@@ -140,6 +141,9 @@ impl<'a> Words<'a> {
             b"deinterleave_u8" => self.move_bytes(Direction::Deinterleave),
             b"interleave_i16" => self.move_symbols(Direction::Interleave),
             b"deinterleave_i16" => self.move_symbols(Direction::Deinterleave),
+            b"turbo_row" => self.turbo_row(),
+            b"turbo_encode" => self.turbo_encode(lists_whole),
+            b"turbo_encode_crc" => self.turbo_encode(lists_in_short),
             _ => wrong("no such call"),
         }
     }
@@ -202,6 +206,36 @@ impl<'a> Words<'a> {
         let answer = Answer::new([move_block(t, &mut block, &mut scratch, direction)]);
         Ok(answer.with(&block).with(&scratch))
     }
+
+    fn turbo_row(&mut self) -> Read<Answer> {
+        let k = self.number()?;
+        self.end()?;
+        Ok(Answer::new(row(k).map_or([NO_ROW, 0, 0], |row| [DONE, row.f1, row.f2])))
+    }
+
+    /// The lists are shown in numbers, in whatever form they came.
+    fn turbo_encode(&mut self, shown: fn(u32, &[Vec<u8>; 3]) -> Answer) -> Read<Answer> {
+        let (k, (input, _)) = (self.number()?, self.bytes()?);
+        let mut lists = [self.bytes()?.0, self.bytes()?.0, self.bytes()?.0];
+        self.end()?;
+        let number = encode(k, &input, &mut lists);
+        Ok(shown(number, &lists))
+    }
+}
+
+fn lists_whole(number: u32, [d0, d1, d2]: &[Vec<u8>; 3]) -> Answer {
+    Answer::new([number]).with(d0).with(d1).with(d2)
+}
+
+fn lists_in_short(number: u32, [d0, d1, d2]: &[Vec<u8>; 3]) -> Answer {
+    Answer::new([number, crc32(d0), crc32(d1), crc32(d2)])
+}
+
+/// The common CRC-32: bit by bit, the lowest first, from ones and turned over at the end.
+pub fn crc32(bytes: &[u8]) -> u32 {
+    let shifted = |rest: u32| if rest % 2 == 1 { (rest / 2) ^ 0xEDB88320 } else { rest / 2 };
+    let taken = |rest: u32, byte: &u8| (0..8).fold(rest ^ *byte as u32, |rest, _| shifted(rest));
+    !bytes.iter().fold(u32::MAX, taken)
 }
 
 /// The number that some digits stand for. Twelve of them are far above every limit, so longer ones are cut to twelve nines.

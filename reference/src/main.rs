@@ -2,7 +2,8 @@
 //! Plain on purpose, and slow. Whether f permutes is seen from all its values; the reciprocal is found by
 //! trying every number below K, ARP's Q by trying the divisors of K upwards, the spread by trying s downwards
 //! (shuffle.rs); the inverse polynomial by linear algebra over the whole numbers (inverting.rs); why f does not
-//! permute by comparing positions, and by trying the primes of K upwards (explaining.rs).
+//! permute by comparing positions, and by trying the primes of K upwards (explaining.rs); the bits of the turbo
+//! encoder as sums of earlier ones (coding.rs).
 
 // Remainders are written out as in the definitions.
 #![allow(clippy::manual_is_multiple_of)]
@@ -11,6 +12,8 @@ mod ask;
 mod ask_input;
 mod card_input;
 mod cards;
+mod coding;
+mod degrees;
 mod explaining;
 mod inverting;
 mod line;
@@ -35,6 +38,7 @@ fn run(what: &str, out: &mut impl Write) -> io::Result<bool> {
         "ask-input" => ask_input::write(out)?,
         "cards" => cards::write(&input()?, out)?,
         "card-input" => card_input::write(out)?,
+        "degrees" => degrees::write(out)?,
         _ => return Ok(false),
     }
     out.flush()?;
@@ -47,7 +51,7 @@ fn main() -> ExitCode {
     match run(&what, &mut out) {
         Ok(true) => ExitCode::SUCCESS,
         Ok(false) => {
-            eprintln!("usage: reference ask|ask-input|cards|card-input");
+            eprintln!("usage: reference ask|ask-input|cards|card-input|degrees");
             ExitCode::from(2)
         }
         Err(error) => {

@@ -1,5 +1,5 @@
-//! The definitions, all but those of the inverse polynomial and of the explanation: an answer is computed as it is
-//! written there, read off the list of all values, or found by trying the candidates in order.
+//! The definitions, all but those of the inverse polynomial, the explanation and the encoder: an answer is computed
+//! as it is written there, read off the list of all values, or found by trying the candidates in order.
 
 /// The numbers of refusal.
 pub const DONE: u32 = 0;
@@ -11,6 +11,7 @@ pub const SHORT_SCRATCH: u32 = 5;
 pub const BAD_POSITION: u32 = 6;
 pub const SHORT_LIST: u32 = 7;
 pub const NOTHING_TO_EXPLAIN: u32 = 8;
+pub const NO_ROW: u32 = 9;
 
 #[derive(Clone, Copy, Debug, PartialEq, Eq)]
 pub struct Triple {
