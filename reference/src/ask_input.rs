@@ -14,6 +14,9 @@ pub fn write(out: &mut impl Write) -> io::Result<()> {
     lines.inverses();
     lines.forms();
     lines.reasons();
+    lines.rows();
+    lines.encodings();
+    lines.encodings_refused();
     lines.language();
     // The last one has no newline.
     out.write_all(&lines.0.join(&b'\n'))
@@ -52,6 +55,10 @@ const EXPLAINED: [(u32, u32, u32); 8] =
 
 /// Long ones, with many primes or few, at the first power or at a higher one.
 const FACTORED: [u32; 10] = [2310, 4620, 6561, 6930, 8186, 8187, 8188, 8189, 8191, 8192];
+
+/// Lengths beyond the standard's or between them, and some that 16 bits would take for one.
+const NO_ROWS: [u32; 14] =
+    [0, 1, 2, 8, 32, 520, 1040, 2080, 6208, 8192, 65536, 65536 + 40, 65536 + 6144, u32::MAX];
 
 /// All triples with coefficients below K + `past`.
 fn triples_past(lengths: RangeInclusive<u32>, past: u32) -> Vec<Triple> {
@@ -97,6 +104,18 @@ fn block(length: usize, wide: bool) -> String {
         false => ((37 * i + 11) % 256).to_string(),
     };
     (0..length).map(symbol).collect::<Vec<String>>().join(",")
+}
+
+/// Bits that come again: Marsaglia's shifts in 32 bits, from a seed for each length.
+fn random_bits(k: u32) -> String {
+    let mut state = 0x6212_0513 + k;
+    let bit = |_| {
+        state ^= state << 13;
+        state ^= state >> 17;
+        state ^= state << 5;
+        ["0", "1"][(state >> 31) as usize]
+    };
+    (0..k).map(bit).collect::<Vec<&str>>().join(",")
 }
 
 struct Lines(Vec<Vec<u8>>);
@@ -225,6 +244,67 @@ impl Lines {
         }
     }
 
+    fn rows(&mut self) {
+        let around = standard_rows().into_iter().flat_map(|row| [row.k - 1, row.k, row.k + 1]);
+        for k in around.chain(NO_ROWS) {
+            self.add(format!("turbo_row {k}"));
+        }
+    }
+
+    fn encode(&mut self, name: &str, k: u32, input: &str, lists: [u32; 3]) {
+        let [d0, d1, d2] = lists;
+        self.add(format!("{name} {k} {input} 9*{d0} 9*{d1} 9*{d2}"));
+    }
+
+    /// Zeros, ones and others at every length; where a list is longer, what stays shows.
+    fn encodings(&mut self) {
+        for row in standard_rows() {
+            let (k, n) = (row.k, row.k + 4);
+            let cases = [
+                (format!("0*{k}"), [n; 3]),
+                (format!("1*{k}"), [n + 1; 3]),
+                (random_bits(k), [n, n + 1, n + 2]),
+            ];
+            for (input, lists) in cases {
+                self.encode("turbo_encode_crc", k, &input, lists);
+                if k == 40 || k == 6144 {
+                    self.encode("turbo_encode", k, &input, lists);
+                }
+            }
+        }
+    }
+
+    /// Both sides of each limit, then several faults in one call.
+    fn encodings_refused(&mut self) {
+        let in_short = "turbo_encode_crc";
+        for row in standard_rows() {
+            for near in [row.k - 1, row.k + 1] {
+                self.encode(in_short, near, &format!("0*{near}"), [near + 4; 3]);
+                self.encode(in_short, row.k, &format!("1*{near}"), [row.k + 4; 3]);
+            }
+        }
+        for k in NO_ROWS {
+            self.encode(in_short, k, &format!("0*{}", k.min(8192)), [8196; 3]);
+        }
+        for k in [40, 6144] {
+            for (place, value) in [0, k / 2, k - 1].into_iter().flat_map(|place| [(place, 2), (place, 255)]) {
+                let input = format!("1*{place},{value},0*{}", k - 1 - place);
+                self.encode(in_short, k, &input, [k + 4; 3]);
+            }
+            for choice in 0..27 {
+                let lists = [choice / 9, choice / 3 % 3, choice % 3].map(|past| k + 3 + past);
+                self.encode(in_short, k, &format!("1*{k}"), lists);
+            }
+        }
+        for k in [40, 41, 48, 0, 65536 + 40] {
+            for input in ["1*40", "1*39", "1*41", "1*39,2", "255*40", "-"] {
+                for lists in [[44; 3], [43, 44, 44], [44, 43, 44], [44, 44, 43], [0; 3], [52; 3]] {
+                    self.encode("turbo_encode", k, input, lists);
+                }
+            }
+        }
+    }
+
     /// The forms of words and lists, good ones and bad ones, and both sides of each limit.
     fn language(&mut self) {
         for line in WORDS {
@@ -247,6 +327,11 @@ impl Lines {
             self.add(format!("interleave_u8 4 1 2 {} 0", "x".repeat(size)));
             self.add(format!("interleave_i16 4 1 2 -9*{},-7*2,9 1", size - 3));
             self.add(format!("interleave_i16 4 1 2 1,2,3,4 1*{size}"));
+            for place in 0..4 {
+                let mut lists = ["1*40", "9*44", "9*44", "9*44"].map(str::to_string);
+                lists[place] = format!("1*{size}");
+                self.add(format!("turbo_encode_crc 40 {}", lists.join(" ")));
+            }
         }
         for (size, filling) in [(65535, " "), (65536, "0")] {
             let rest = size - "accept 4 1 2".len();
@@ -401,4 +486,73 @@ const WORDS: &[&str] = &[
     "interleave_i16 4 1 2 1,2,3,4 ABC",
     "interleave_i16 4 1 2 1,2,3,4 256",
     "interleave_i16 4 1 2 - -",
+    "turbo_row",
+    "turbo_row 40 3",
+    "turbo_row  0040 ",
+    "turbo_row x",
+    "turbo_row -40",
+    "turbo_row -",
+    "turbo_row 4294967336",
+    "turbo_row 40 x",
+    "turbo_ro 40",
+    "turbo_rows 40",
+    "turbo_row40",
+    "turbo 40",
+    "row 40",
+    "turbo_encod 40 1*40 9*44 9*44 9*44",
+    "turbo_encodes 40 1*40 9*44 9*44 9*44",
+    "turbo_encode_ 40 1*40 9*44 9*44 9*44",
+    "turbo_encode_crc32 40 1*40 9*44 9*44 9*44",
+    "turbo_encode_cr 40 1*40 9*44 9*44 9*44",
+    "encode 40 1*40 9*44 9*44 9*44",
+    "turbo_encode",
+    "turbo_encode 40",
+    "turbo_encode 40 1*40",
+    "turbo_encode 40 1*40 9*44",
+    "turbo_encode 40 1*40 9*44 9*44",
+    "turbo_encode 40 1*40 9*44 9*44 9*44 9*44",
+    "turbo_encode 40 1*40 9*44 9*44 9*44 x",
+    "  turbo_encode  40   1*40 9*44 9*44   9*44 ",
+    "turbo_encode 40 3 10 1*40 9*44 9*44 9*44",
+    "turbo_encode x 1*40 9*44 9*44 9*44",
+    "turbo_encode - 1*40 9*44 9*44 9*44",
+    "turbo_encode 4294967336 1*40 9*44 9*44 9*44",
+    "turbo_encode 4294967336 256 9*44 9*44 9*44",
+    "turbo_encode 40 256 x*2 x*2 x*2",
+    "turbo_encode 40 1*39,-1 9*44 9*44 9*44",
+    "turbo_encode 40 1*39,-0 9*44 9*44 9*44",
+    "turbo_encode 40 1*39,256 9*44 9*44 9*44",
+    "turbo_encode 40 1*40, 9*44 9*44 9*44",
+    "turbo_encode 40 _ 9*44 9*44 9*44",
+    "turbo_encode 40 1*40 256*44 9*44 9*44",
+    "turbo_encode 40 1*40 9*44 256*44 9*44",
+    "turbo_encode 40 1*40 9*44 9*44 256*44",
+    "turbo_encode 40 1*40 9*44 9*44 9*43,-1",
+    "turbo_encode 40 1*40 9;9 9*44 256*44",
+    "turbo_encode 40 1*40 9*44 9;9 256*44",
+    "turbo_encode 40 1*40 9*44 9*44 9;9",
+    "turbo_encode 40 1*40 - - -",
+    "turbo_encode 40 1*40 - 9*44 9*44",
+    "turbo_encode 40 1*40 9*44 - 9*44",
+    "turbo_encode 40 1*40 9*44 9*44 -",
+    "turbo_encode 40 - - - -",
+    "turbo_encode 0 - 9*4 9*4 9*4",
+    "turbo_encode 0 - - - -",
+    "turbo_encode 41 1*41 9*2,8*0 - 7",
+    "turbo_encode 40 0,1,1,0*36,1 1*44,9 2*44,8,7 3*44",
+    "turbo_encode 40 Input a,b d1 Z",
+    "turbo_encode 41 Input a,b d1 Z",
+    "turbo_encode 40 1*40 abcdefghijklmnopqrstuvwxyzABCDEFGHIJKLMNOPQRSTUVWXYZ 9*44 x9876543210_abcdefghijklmnopqrstuvwxyz_0123456789",
+    "turbo_encode 40 ABCDEFGHIJKLMNOPQRSTUVWXYZabcdefghijklmn 9*44 9*44 9*44",
+    "turbo_encode_crc",
+    "turbo_encode_crc 40 1*40 9*44 9*44",
+    "turbo_encode_crc 40 1*40 9*44 9*44 9*44 9*44",
+    "turbo_encode_crc 40 x*40 9*44 9*44 9*44",
+    "turbo_encode_crc 40 1,*40 9*44 9*44 9*44",
+    "turbo_encode_crc 40 1*40 9*44 9*44 256",
+    "turbo_encode_crc 40 1*40 - - -",
+    "turbo_encode_crc 40 - - - -",
+    "turbo_encode_crc 41 A - B1 z23456789",
+    "turbo_encode_crc 41 - 49,50,51,52,53,54,55,56,57 0 255",
+    "turbo_encode_crc 40 0,1,1,0*36,1 1*44,9 abcdefghijklmnopqrstuvwxyzabcdefghijklmnopqrstuvwxyz 3*44",
 ];

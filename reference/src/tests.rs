@@ -1,10 +1,11 @@
 //! Worked cases, and the inverse against all polynomials where they can be listed.
 
+use crate::coding::{code, encode, row};
 use crate::explaining::{explain, Reason};
 use crate::inverting::{coefficient_limit, evaluate, inverse};
 use crate::rows::standard_rows;
 use crate::shuffle::*;
-use crate::{ask, ask_input, card_input, cards};
+use crate::{ask, ask_input, card_input, cards, degrees};
 use std::collections::BTreeSet;
 
 fn t(k: u32, f1: u32, f2: u32) -> Triple {
@@ -215,6 +216,13 @@ fn sample_answers() {
         ("deinterleave_u8 9 1 3 65,66,67,68,69,70,71,72,73 1,2,3", "0 65,72,73,68,66,67,71,69,70 0,0,3"),
         ("interleave_i16 4 1 2 -5,7,32767,-32768 0*1", "0 -5,-32768,32767,7 0"),
         ("  deinterleave_i16  4 1 2 1,2,3 AB ", "4 1,2,3 65,66"),
+        ("turbo_row 40", "0 3 10"),
+        ("turbo_row 6144", "0 263 480"),
+        ("turbo_row 41", "9 0 0"),
+        ("turbo_encode 41 AB 1,2 - Z", "9 1,2 - 90"),
+        ("turbo_encode 40 1*39 9*2 8*2 7*2", "4 9,9 8,8 7,7"),
+        ("turbo_encode 40 1*40 9*2 8*2 A1", "7 9,9 8,8 65,49"),
+        ("turbo_encode_crc 41 - - 49,50,51,52,53,54,55,56,57 -", "9 0 3421780262 0"),
     ];
     for (line, answer) in cases {
         assert_eq!(answers(line.as_bytes()), [answer]);
@@ -238,6 +246,10 @@ fn lines_that_are_no_question() {
         ("interleave_u8 4 1 2 1,2,3,4 -1", "? word 6: an entry out of range"),
         ("interleave_i16 4 1 2 32768 x", "? word 5: an entry out of range"),
         ("addresses 4 1 2 1,1*8200", "? word 5: a list of more than 8200 entries"),
+        ("turbo_row 40 3 10", "? word 3: too many words"),
+        ("turbo_encode 40 1*40 9*44 9*44", "? word 6: too few words"),
+        ("turbo_encode 40 1*40 9*44 256 x,", "? word 5: an entry out of range"),
+        ("turbo_encode_crc x 256 9*44 9*44 9*44", "? word 2: no number"),
     ];
     for (line, answer) in cases {
         assert_eq!(answers(line.as_bytes()), [answer]);
@@ -253,7 +265,7 @@ fn lines_that_are_no_question() {
 fn ask_input_is_as_meant() {
     let mut input = Vec::new();
     ask_input::write(&mut input).unwrap();
-    assert!(!input.ends_with(b"\n") && input.len() < 2_600_000);
+    assert!(!input.ends_with(b"\n") && input.len() < 3_300_000);
     let text = String::from_utf8_lossy(&input);
     let answers = answers(&input);
     let mut numbers = BTreeSet::new();
@@ -282,16 +294,188 @@ fn ask_input_is_as_meant() {
         ("deinterleave_u8", "012345"),
         ("interleave_i16", "012345"),
         ("deinterleave_i16", "012345"),
+        ("turbo_row", "09"),
+        ("turbo_encode", "0479"),
+        ("turbo_encode_crc", "0479"),
     ];
     let all = refusals.iter().flat_map(|(name, list)| list.chars().map(move |n| format!("{name} {n}")));
     assert_eq!(numbers, all.collect());
     assert_eq!(complaints.len(), 9);
 }
 
+/// Table II of source document 001: length, coefficients, and a printed inverse of least degree.
+const PRINTED: [(u32, u32, u32, &[u32]); 35] = [
+    (928, 15, 58, &[31, 290, 232]),
+    (1056, 17, 66, &[1025, 726, 792]),
+    (1184, 19, 74, &[779, 74, 296]),
+    (1248, 19, 78, &[427, 78, 936]),
+    (1312, 21, 82, &[781, 574, 984]),
+    (1376, 21, 86, &[557, 602, 344]),
+    (1504, 49, 846, &[353, 282, 376]),
+    (1632, 25, 102, &[1273, 306, 408]),
+    (1696, 55, 954, &[663, 530, 424]),
+    (1760, 27, 110, &[163, 990, 1320]),
+    (1824, 29, 114, &[1541, 1710, 1368]),
+    (1888, 45, 354, &[21, 1534, 472]),
+    (1952, 59, 610, &[579, 1586, 488]),
+    (2112, 17, 66, &[1025, 1782, 792]),
+    (2944, 45, 92, &[1701, 1748, 2208]),
+    (4160, 33, 130, &[3057, 1430, 1560]),
+    (4288, 33, 134, &[3281, 1474, 2680]),
+    (4416, 35, 138, &[347, 2346, 552]),
+    (4544, 357, 142, &[4509, 994, 2840]),
+    (4672, 37, 146, &[2557, 1022, 4088]),
+    (4736, 71, 444, &[2935, 3996, 3552]),
+    (4928, 39, 462, &[1927, 1078, 616]),
+    (4992, 127, 234, &[511, 2730, 4056, 2184]),
+    (5056, 39, 158, &[3079, 2054, 1896]),
+    (5184, 31, 96, &[3679, 1632, 1152]),
+    (5248, 113, 902, &[2833, 410, 4264, 328]),
+    (5312, 41, 166, &[3401, 498, 3320]),
+    (5440, 43, 170, &[1107, 1530, 680]),
+    (5504, 21, 86, &[2621, 5074, 1032, 5160]),
+    (5568, 43, 174, &[1651, 1566, 4872]),
+    (5696, 45, 178, &[3829, 5518, 4984]),
+    (5824, 89, 182, &[409, 3458, 3640]),
+    (5952, 47, 186, &[95, 930, 3720]),
+    (6016, 23, 94, &[1831, 3854, 1880, 4888]),
+    (6080, 47, 190, &[2943, 950, 2280]),
+];
+
 #[test]
 fn rows_that_no_quadratic_undoes() {
-    let above = standard_rows().into_iter().filter(|&row| inverse(row).degree > 2);
-    assert_eq!(above.count(), 35);
+    let mut out = Vec::new();
+    degrees::write(&mut out).unwrap();
+    let line = |(k, f1, f2, inverse): (u32, u32, u32, &[u32])| format!("{k} {f1} {f2} {}\n", inverse.len());
+    let lines: String = PRINTED.into_iter().map(line).collect();
+    assert_eq!(String::from_utf8(out).unwrap(), lines + "35 of 188 rows have D above 2\n");
+    for (k, f1, f2, inverse) in PRINTED {
+        assert!(undoes(t(k, f1, f2), inverse, 0));
+    }
+}
+
+#[test]
+fn rows_by_their_lengths() {
+    let steps = [(40..=512, 8), (528..=1024, 16), (1056..=2048, 32), (2112..=6144, 64)];
+    let lengths: Vec<u32> = steps.into_iter().flat_map(|(range, step)| range.step_by(step)).collect();
+    assert_eq!(standard_rows().iter().map(|row| row.k).collect::<Vec<u32>>(), lengths);
+    for k in 0..=8192 {
+        assert_eq!(row(k).is_some(), lengths.contains(&k));
+    }
+    assert!(standard_rows().into_iter().all(|row| row.acceptance() == DONE));
+}
+
+fn bits(text: &str) -> Vec<u8> {
+    text.bytes().filter(|&byte| byte != b' ').map(|byte| byte - b'0').collect()
+}
+
+/// By long division: 1/g0 is 1011100 again and again, and g1/g0 is 1 and then 1110010 again and again.
+#[test]
+fn impulse_response() {
+    let coded = code(&bits("1000000 0000000 0000000 00"));
+    assert_eq!(coded.z[..23], bits("1 1110010 1110010 1110010 1"));
+    // 1 + D² + D³ is the feedback itself, which leaves the coder empty: its output is g1.
+    let coded = code(&bits("1011 00000"));
+    assert_eq!((coded.x, coded.z), (bits("1011 00000 000"), bits("1101 00000 000")));
+    // Two ones seven apart: the response ends.
+    assert_eq!(code(&bits("1000000 1000")).z, bits("1 1110011 000 000"));
+}
+
+/// By hand, with a, b, c the last three bits of w, the latest first: x(K) = b + c, z(K) = a + c, and so on with a 0 in
+/// front of them.
+#[test]
+fn tail_by_hand() {
+    for left in all_lists(&[2; 3]) {
+        let [a, b, c] = [left[0], left[1], left[2]].map(|bit| bit as u8);
+        let coded = code(&[c, b, a ^ c]);
+        assert_eq!(coded.x[3..], [b ^ c, a ^ b, a]);
+        assert_eq!(coded.z[3..], [a ^ c, b, a]);
+    }
+}
+
+/// The tail leaves zeros: a coder that went on with zeros would put out zeros.
+#[test]
+fn tail_leaves_zeros() {
+    for block in all_lists(&[2; 10]) {
+        let block: Vec<u8> = block.iter().map(|&bit| bit as u8).collect();
+        let coded = code(&block);
+        let longer = code(&[&coded.x[..], &[0; 9]].concat());
+        assert_eq!(longer.x, [&coded.x[..], &[0; 12]].concat());
+        assert_eq!(longer.z, [&coded.z[..], &[0; 12]].concat());
+    }
+}
+
+fn encoded(input: &[u8]) -> [Vec<u8>; 3] {
+    let mut lists = [7, 8, 9].map(|byte| vec![byte; input.len() + 5]);
+    assert_eq!(encode(input.len() as u32, input, &mut lists), DONE);
+    assert_eq!([0, 1, 2].map(|list| lists[list].pop()), [Some(7), Some(8), Some(9)]);
+    lists
+}
+
+fn single(k: usize, place: usize) -> Vec<u8> {
+    (0..k).map(|i| (i == place) as u8).collect()
+}
+
+/// One bit in a block of 40, by hand: f(0) = 0, f(26) = 38, f(23) = 39, and the second coder has the bit there.
+#[test]
+fn encoded_by_hand() {
+    let response = bits("1 1110010 1110010 1110010 1110010 1110010 1110");
+    let cases = [(0, 0, ["0101"; 3]), (38, 26, ["1110", "0010", "1000"]), (39, 23, ["0010", "1101", "1111"])];
+    for (first, second, tails) in cases {
+        let input = single(40, first);
+        let later = |place: usize| [&vec![0; place][..], &response[..40 - place]].concat();
+        let bodies = [input.clone(), later(first), later(second)];
+        for ((list, body), tail) in encoded(&input).iter().zip(bodies).zip(tails) {
+            assert_eq!(*list, [body, bits(tail)].concat());
+        }
+    }
+}
+
+/// Zeros give zeros, and the sum of two blocks gives the sum of what the two give.
+#[test]
+fn encoding_adds_up() {
+    let plus = |a: &[u8], b: &[u8]| a.iter().zip(b).map(|(a, b)| (a + b) % 2).collect::<Vec<u8>>();
+    for k in [40, 504, 6144] {
+        let (ones, thirds) = (vec![1; k], (0..k).map(|i| (i % 3 == 0) as u8).collect::<Vec<u8>>());
+        let (a, b, both) = (encoded(&ones), encoded(&thirds), encoded(&plus(&ones, &thirds)));
+        for list in 0..3 {
+            assert_eq!(plus(&a[list], &b[list]), both[list]);
+            assert_eq!(encoded(&vec![0; k])[list], vec![0; k + 4]);
+        }
+    }
+}
+
+#[test]
+fn encoding_refusals() {
+    let cases = [
+        (40, 40, 1, [44, 44, 44], DONE),
+        (40, 40, 1, [43, 44, 44], SHORT_LIST),
+        (40, 40, 1, [44, 43, 44], SHORT_LIST),
+        (40, 40, 1, [44, 44, 43], SHORT_LIST),
+        (40, 40, 1, [0, 0, 0], SHORT_LIST),
+        (40, 40, 2, [44, 44, 44], BAD_BLOCK),
+        (40, 40, 255, [43, 43, 43], BAD_BLOCK),
+        (40, 39, 1, [44, 44, 44], BAD_BLOCK),
+        (40, 41, 1, [0, 0, 0], BAD_BLOCK),
+        (39, 39, 1, [43, 43, 43], NO_ROW),
+        (41, 40, 2, [0, 0, 0], NO_ROW),
+        (0, 0, 0, [4, 4, 4], NO_ROW),
+        (6145, 6145, 1, [6149, 6149, 6149], NO_ROW),
+    ];
+    for (k, length, last, lists, number) in cases {
+        let mut input = vec![0; length];
+        input.iter_mut().rev().take(1).for_each(|bit| *bit = last);
+        let mut lists = lists.map(|length| vec![9; length]);
+        let before = lists.clone();
+        assert_eq!(encode(k, &input, &mut lists), number);
+        assert_eq!(lists == before, number != DONE);
+    }
+}
+
+#[test]
+fn check_value_of_the_crc() {
+    assert_eq!(ask::crc32(b"123456789"), 3421780262);
+    assert_eq!(ask::crc32(b""), 0);
 }
 
 /// Every list of coefficients with the given count of choices at each degree.
