@@ -1,7 +1,8 @@
 # shellcheck shell=bash disable=SC2034
-# Sourced by tests/c/run, tests/rust/run and bench/run from the top of the repository: what they need of the machine.
-# The archive is code for x86-64. Elsewhere C is built by Debian's cross compiler and run under the toolchain's emulator.
-library=target/staticlib/libqpp.a
+# Sourced by tests/c/run, tests/turbo/run, tests/rust/run, bench/run and bench/itpp from the top of the repository: what they need
+# of the machine. An archive is code for x86-64. Elsewhere C is built by Debian's cross compiler and run under the toolchain's
+# emulator.
+archives=target/staticlib
 native=no
 [ "$(uname -m)" = x86_64 ] && native=yes
 
@@ -23,8 +24,14 @@ else
     run=("$kit/on/$(uname -m)/toolchain/bin/qemu-x86_64")
 fi
 
-archive() { # builds the archive unless it is newer than every source
-    if [ ! -e "$library" ] || [ -n "$(find crates crates.txt -newer "$library" -print -quit)" ]; then
-        rt staticlib qpp >&2
+archive() { # NAME: builds the archive unless it is newer than every source
+    local file=$archives/lib$1.a
+    if [ ! -e "$file" ] || [ -n "$(find crates crates.txt -newer "$file" -print -quit)" ]; then
+        rt staticlib "$1" >&2
     fi
+}
+
+rows() { # the 188 triples of the standard, for C to include
+    mkdir -p target/outside
+    sed 's/ /, /g; s/.*/{&},/' reference/lte-rows.txt >target/outside/rows.inc
 }

@@ -20,6 +20,7 @@ uint32_t below(uint32_t n); /* n is not 0 */
 
 void test_calls(void);  /* worked cases, and each call on both sides of each limit */
 void test_guards(void); /* not a byte is written that should not be */
+void test_turbo(void);  /* the same of the encoder, and the two libraries together */
 void test_random(void); /* everything from valid to nonsense, against the model */
 
 #endif

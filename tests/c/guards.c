@@ -5,7 +5,7 @@
 #define LONGEST 8300 /* symbols, entries or bytes of a buffer */
 
 /* Aligned to 16-bit values; a block of bytes begins at an odd place. */
-static _Alignas(16) uint8_t ours[2 * LONGEST + LONGEST + 3 * GUARD + 1], theirs[sizeof ours];
+static _Alignas(16) uint8_t ours[4 * LONGEST + 5 * GUARD + 1], theirs[sizeof ours];
 
 /* Fills both arenas up to the end and a guard; the random bytes come from a pool, from another place each time. */
 static size_t fill(size_t end) {
@@ -48,6 +48,22 @@ void lend_arp(struct triple t, size_t n) {
     struct qpp_arp r = qpp_arp(t.k, t.f1, t.f2, (uint16_t *)(void *)(ours + GUARD), n);
     struct qpp_arp model = model_arp(t, (uint16_t *)(void *)(theirs + GUARD), n);
     CHECK(r.number == model.number && r.p == model.p && r.q == model.q);
+    CHECK(memcmp(ours, theirs, size) == 0);
+}
+
+/* The input lies between the lists, so that it is watched like all around them. */
+void lend_encoder(uint32_t k, const uint8_t *input, size_t n, const size_t lengths[3]) {
+    struct triple t = {k, model_row(k).f1, model_row(k).f2};
+    size_t first = GUARD + 1, block = first + lengths[0] + GUARD, second = block + n + GUARD;
+    size_t third = second + lengths[1] + GUARD, size = fill(third + lengths[2]);
+    if (n > 0) {
+        memcpy(ours + block, input, n);
+        memcpy(theirs + block, input, n);
+    }
+    struct lists lists = {{theirs + first, theirs + second, theirs + third}, {lengths[0], lengths[1], lengths[2]}};
+    uint32_t number =
+        turbo_encode(k, ours + block, n, ours + first, lengths[0], ours + second, lengths[1], ours + third, lengths[2]);
+    CHECK(number == model_encode(k, theirs + block, n, lists));
     CHECK(memcmp(ours, theirs, size) == 0);
 }
 

@@ -12,5 +12,6 @@
 void lend_block(struct triple t, enum direction d, size_t width, size_t n, size_t m);
 void lend_addresses(struct triple t, size_t n);
 void lend_arp(struct triple t, size_t n);
+void lend_encoder(uint32_t k, const uint8_t *input, size_t n, const size_t lengths[3]); /* of a copy of the input */
 
 #endif

@@ -1,5 +1,6 @@
 #include "check.h"
 #include "qpp.h"
+#include "turbo.h"
 #include <stdio.h>
 
 /* The layout that a caller in another language relies on. */
@@ -21,6 +22,8 @@ _Static_assert(sizeof(struct qpp_start) == 20, "number, walker");
 _Static_assert(offsetof(struct qpp_start, walker) == 4, "walker");
 _Static_assert(sizeof(struct qpp_step) == 24, "number, address, walker");
 _Static_assert(offsetof(struct qpp_step, address) == 4 && offsetof(struct qpp_step, walker) == 8, "address, walker");
+_Static_assert(sizeof(struct turbo_row) == 12, "number, f1, f2");
+_Static_assert(offsetof(struct turbo_row, f1) == 4 && offsetof(struct turbo_row, f2) == 8, "f1, f2");
 
 static unsigned long checks, failed;
 
@@ -46,6 +49,7 @@ uint32_t below(uint32_t n) { return any() % n; }
 int main(void) {
     test_calls();
     test_guards();
+    test_turbo();
     test_random();
     printf("c: %lu checks, %lu failed\n", checks, failed);
     return failed != 0;

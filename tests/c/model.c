@@ -3,6 +3,10 @@
 
 #define LONGEST 8192
 
+const struct triple rows[ROWS] = {
+#include "rows.inc"
+};
+
 /* Asked only for numbers in range: f2*x*x reaches nearly 2 to the 39th. */
 uint32_t model_f(struct triple t, uint32_t x) {
     uint64_t y = x;
@@ -243,4 +247,69 @@ bool model_fits_inverse(struct triple t, const struct qpp_inverse *g) {
         for (uint32_t y = 0; y < left; y++)
             difference[y] = difference[y + 1] - difference[y];
     return difference[0] % t.k != 0;
+}
+
+struct turbo_row model_row(uint32_t k) {
+    for (size_t i = 0; i < ROWS; i++)
+        if (rows[i].k == k)
+            return (struct turbo_row){0, rows[i].f1, rows[i].f2};
+    return (struct turbo_row){9, 0, 0};
+}
+
+/* The bit so many places before n. Before time 0 all are 0. */
+static uint8_t before(const uint8_t *bits, uint32_t n, uint32_t places) { return n < places ? 0 : bits[n - places]; }
+
+struct coded {
+    uint8_t x[LONGEST + 3], z[LONGEST + 3];
+};
+
+/* One coder: x has K bits and gets three more, which leave nothing of the block behind. */
+static void model_code(uint32_t k, struct coded *c) {
+    static uint8_t w[LONGEST + 3];
+    for (uint32_t n = 0; n < k + 3; n++) {
+        uint8_t back = before(w, n, 2) ^ before(w, n, 3);
+        if (n >= k)
+            c->x[n] = back;
+        w[n] = c->x[n] ^ back;
+        c->z[n] = w[n] ^ before(w, n, 1) ^ before(w, n, 3);
+    }
+}
+
+static uint32_t encodable(uint32_t k, const uint8_t *input, size_t n, struct lists lists) {
+    if (model_row(k).number != 0)
+        return 9;
+    if (n != k)
+        return 4;
+    for (size_t i = 0; i < n; i++)
+        if (input[i] != 0 && input[i] != 1)
+            return 4;
+    for (int i = 0; i < 3; i++)
+        if (lists.n[i] < k + 4)
+            return 7;
+    return 0;
+}
+
+uint32_t model_encode(uint32_t k, const uint8_t *input, size_t n, struct lists lists) {
+    static struct coded a, b;
+    uint32_t number = encodable(k, input, n, lists);
+    if (number != 0)
+        return number;
+    struct triple t = {k, model_row(k).f1, model_row(k).f2};
+    for (uint32_t i = 0; i < k; i++) {
+        a.x[i] = input[i];
+        b.x[i] = input[model_f(t, i)];
+    }
+    model_code(k, &a);
+    model_code(k, &b);
+    const uint8_t *bodies[3] = {input, a.z, b.z};
+    const uint8_t tails[3][4] = {
+        {a.x[k], a.z[k + 1], b.x[k], b.z[k + 1]},
+        {a.z[k], a.x[k + 2], b.z[k], b.x[k + 2]},
+        {a.x[k + 1], a.z[k + 2], b.x[k + 1], b.z[k + 2]},
+    };
+    for (int i = 0; i < 3; i++) {
+        memcpy(lists.d[i], bodies[i], k);
+        memcpy(lists.d[i] + k, tails[i], 4);
+    }
+    return 0;
 }

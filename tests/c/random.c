@@ -4,10 +4,6 @@
 
 #define INPUTS 3000000
 
-static const struct triple rows[] = {
-#include "rows.inc"
-};
-
 /* The product of the primes that divide k. */
 static uint32_t radical(uint32_t k) {
     uint32_t product = 1;
@@ -57,7 +53,7 @@ static struct triple draw(void) {
     case 3:
         if (below(50))
             return (struct triple){4 * below(17) + 2, below(70), below(70)}; /* where the odd form matters */
-        return rows[below(sizeof rows / sizeof *rows)];
+        return rows[below(ROWS)];
     case 4:
         if (below(100))
             return likely(64 + below(200));
@@ -128,6 +124,34 @@ static void lending(struct triple t) {
     }
 }
 
+/* Mostly a short row, since the model goes through all bits; at times a length that is none. */
+static uint32_t draw_length(void) {
+    switch (below(16)) {
+    case 0:
+        return any();
+    case 1:
+        return edge(rows[below(ROWS)].k);
+    case 2:
+        return below(20) ? below(100) : rows[below(ROWS)].k;
+    default:
+        return rows[below(10)].k;
+    }
+}
+
+/* Bits, and seldom a byte that is none; seldom an input that is not K bytes or a list that is too short. */
+static void encoding(void) {
+    static uint8_t input[8300];
+    uint32_t k = draw_length();
+    size_t fitting = k <= 8192 ? k : below(100), n = below(8) ? fitting : near(fitting), lengths[3];
+    for (size_t i = 0; i < n; i++)
+        input[i] = any() >> 31;
+    if (n > 0 && below(8) == 0)
+        input[below((uint32_t)n)] = (uint8_t)any();
+    for (int i = 0; i < 3; i++)
+        lengths[i] = below(8) ? fitting + 4 + below(3) : near(fitting + 4);
+    lend_encoder(k, input, n, lengths);
+}
+
 void test_random(void) {
     for (uint32_t i = 0; i < INPUTS; i++) {
         struct triple t = draw();
@@ -136,5 +160,7 @@ void test_random(void) {
         walking(t);
         lending(t);
         inverse_and_spread(t);
+        if (i % 8 == 0)
+            encoding();
     }
 }
