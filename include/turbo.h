@@ -10,8 +10,8 @@
  * through it, and each refuses it by its number (4 for the input, 7 for a list) unless an earlier test refuses. Each
  * call takes less than half a kilobyte of stack.
  */
-#ifndef TURBO_H
-#define TURBO_H
+#ifndef SLATTERFORD_TURBO_H
+#define SLATTERFORD_TURBO_H
 
 #include <stddef.h>
 #include <stdint.h>
