@@ -23,11 +23,17 @@ struct row {
 static struct {
     uint8_t bytes[8192], gap1[832], bytes_to[8192], gap2[832], scratch[1024];
     int16_t words[8192], gap3[416], words_to[8192], gap4[416];
-    uint16_t list[8192], gap5[416], table[8192];
+    uint16_t list[8192], gap5[416], table[8192], gap6[416];
+    uint8_t bits[6144], gap7[832];
+    struct coded {
+        uint8_t d0[6148], gap1[828], d1[6148], gap2[828], d2[6148];
+    } coded;
 } room;
 static uint8_t *const bytes = room.bytes, *const bytes_to = room.bytes_to, *const scratch = room.scratch;
 static int16_t *const words = room.words, *const words_to = room.words_to;
 static uint16_t *const list = room.list, *const table = room.table;
+static uint8_t *const bits = room.bits;
+static struct coded *const coded = &room.coded;
 
 /* What the call answered, so that the two can be compared: they do the same job. */
 static struct qpp_inverse answer;
@@ -109,6 +115,22 @@ WALK(our_walk, qpp_walker_step)
 WALK(plain_walk, plain_walker_step)
 NUMBER(loop, plain_loop)
 
+#define ENCODE(NAME, CALL)                                                                \
+    static void drive_##NAME(const struct row *r) {                                       \
+        uint32_t n = r->k + 4;                                                            \
+        answer.number = CALL(r->k, bits, r->k, coded->d0, n, coded->d1, n, coded->d2, n); \
+    }
+ENCODE(our_encode, turbo_encode)
+ENCODE(plain_encode, plain_turbo_encode)
+
+#define STANDARD(NAME, CALL)                                                \
+    static void drive_##NAME(const struct row *r) {                         \
+        struct turbo_row v = CALL(r->k);                                    \
+        answer.number = v.number, answer.degree = v.f1, answer.a[0] = v.f2; \
+    }
+STANDARD(our_row, turbo_row)
+STANDARD(plain_row, plain_turbo_row)
+
 #define MOVE_ROWS(TEXT, WHAT, K, F1, F2)                                                 \
     {TEXT, "cycles in C", K, F1, F2, drive_our_##WHAT, drive_plain_##WHAT},              \
         {TEXT, "cycles in C, tuned", K, F1, F2, drive_our_##WHAT, drive_quick_##WHAT}, { \
@@ -147,6 +169,9 @@ static const struct row rows[] = {
     ROWS("spread", spread, "the same in C", plain_spread),
     ROWS("walker, K steps", walk, "the same in C", plain_walk),
     ROWS("walker, K steps", walk, "loop with no walker", loop),
+    ROWS("turbo encode", encode, "the same in C", plain_encode),
+    {"turbo encode", "the same in C", 1024, 31, 64, drive_our_encode, drive_plain_encode},
+    ROWS("turbo row", row, "the same in C", plain_row),
 };
 enum { COUNT = sizeof rows / sizeof *rows };
 
@@ -158,6 +183,9 @@ static void prepare(const struct row *r) {
     memset(scratch, 0xaa, sizeof room.scratch);
     memset(list, 0, sizeof room.list);
     memset(&answer, 0, sizeof answer);
+    for (uint32_t i = 0; i < sizeof room.bits; i++)
+        bits[i] = i * 2654435761u >> 13 & 1;
+    memset(coded, 9, sizeof *coded);
     plain_addresses(r->k, r->f1, r->f2, table, 8192);
 }
 
@@ -167,6 +195,7 @@ static void compare(const struct row *r) {
     static int16_t w[8192];
     static uint16_t l[8192];
     static uint8_t s[1024];
+    static struct coded c;
     prepare(r);
     r->ours(r);
     struct qpp_inverse a = answer;
@@ -174,6 +203,7 @@ static void compare(const struct row *r) {
     memcpy(w, words, sizeof w);
     memcpy(l, list, sizeof l);
     memcpy(s, scratch, sizeof s);
+    memcpy(&c, coded, sizeof c);
     prepare(r);
     r->theirs(r);
     bool moved = strcmp(r->against, "table, out of place") == 0;
@@ -182,7 +212,7 @@ static void compare(const struct row *r) {
     if (moved && strstr(r->call, "i16"))
         memcpy(words, words_to, 2 * r->k);
     if (memcmp(&a, &answer, sizeof a) || memcmp(b, bytes, sizeof b) || memcmp(w, words, sizeof w) ||
-        memcmp(l, list, sizeof l) || (!moved && memcmp(s, scratch, sizeof s))) {
+        memcmp(l, list, sizeof l) || (!moved && memcmp(s, scratch, sizeof s)) || memcmp(&c, coded, sizeof c)) {
         fprintf(stderr, "%s at %u: the two sides differ\n", r->call, r->k);
         exit(1);
     }

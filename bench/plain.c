@@ -386,3 +386,82 @@ EXPAND(DEINTERLEAVE, quick_deinterleave_i16, int16_t, MULTIPLIED)
     }
 THROUGH_TABLE(uint8_t, u8)
 THROUGH_TABLE(int16_t, i16)
+
+static const struct standard {
+    uint16_t k, f1, f2;
+} standard[] = {
+#include "rows.inc"
+};
+
+/* The lengths go up by 8, from 512 on by 16, from 1024 on by 32, from 2048 on by 64. */
+static inline const struct standard *standard_row(uint32_t k) {
+    if (k < 40 || k > 6144)
+        return NULL;
+    uint32_t i = k <= 512 ? k / 8 - 5 : k <= 1024 ? k / 16 + 27 : k <= 2048 ? k / 32 + 59 : k / 64 + 91;
+    return standard[i].k == k ? &standard[i] : NULL;
+}
+
+struct turbo_row plain_turbo_row(uint32_t k) {
+    const struct standard *row = standard_row(k);
+    return row ? (struct turbo_row){TURBO_DONE, row->f1, row->f2} : (struct turbo_row){TURBO_NO_ROW, 0, 0};
+}
+
+/*
+ * For each bit taken in, the state that each state leads to, and what is put out. A state is 4*w(n-1) + 2*w(n-2) +
+ * w(n-3). Two tables of bytes take less time than one of pairs, and than sums with no table.
+ */
+static const uint8_t next_state[2][8] = {{0, 4, 5, 1, 2, 6, 7, 3}, {4, 0, 1, 5, 6, 2, 3, 7}};
+static const uint8_t parity[2][8] = {{0, 0, 1, 1, 1, 1, 0, 0}, {1, 1, 0, 0, 0, 0, 1, 1}};
+
+struct tail {
+    uint8_t x[3], z[3];
+};
+
+/* The bit taken in is the one fed back, so that a 0 goes into the state. */
+static inline struct tail tail(uint32_t state) {
+    struct tail t;
+    for (int i = 0; i < 3; i++) {
+        t.x[i] = (state >> 1 ^ state) & 1;
+        t.z[i] = parity[t.x[i]][state];
+        state >>= 1;
+    }
+    return t;
+}
+
+static inline bool all_bits(const uint8_t *input, size_t n) {
+    uint8_t met = 0;
+    for (size_t i = 0; i < n; i++)
+        met |= input[i];
+    return met <= 1;
+}
+
+uint32_t plain_turbo_encode(uint32_t k, const uint8_t *input, size_t n, uint8_t *restrict d0, size_t n0,
+                            uint8_t *restrict d1, size_t n1, uint8_t *restrict d2, size_t n2) {
+    const struct standard *row = standard_row(k);
+    if (!row)
+        return TURBO_NO_ROW;
+    if (n != k || !all_bits(input, n))
+        return TURBO_NO_BLOCK;
+    if (n0 < k + 4 || n1 < k + 4 || n2 < k + 4)
+        return TURBO_NO_LIST;
+    struct walk w = walk_start(k, row->f1, row->f2);
+    size_t first = 0, second = 0;
+    for (uint32_t i = 0; i < k; i++, w = walk_on(w, k)) {
+        uint8_t a = input[i], b = input[w.address];
+        d0[i] = a;
+        d1[i] = parity[a][first];
+        d2[i] = parity[b][second];
+        first = next_state[a][first];
+        second = next_state[b][second];
+    }
+    struct tail a = tail(first), b = tail(second);
+    const uint8_t tails[3][4] = {
+        {a.x[0], a.z[1], b.x[0], b.z[1]},
+        {a.z[0], a.x[2], b.z[0], b.x[2]},
+        {a.x[1], a.z[2], b.x[1], b.z[2]},
+    };
+    memcpy(d0 + k, tails[0], 4);
+    memcpy(d1 + k, tails[1], 4);
+    memcpy(d2 + k, tails[2], 4);
+    return TURBO_DONE;
+}

@@ -3,6 +3,7 @@
 #define PLAIN_H
 
 #include "qpp.h"
+#include "turbo.h"
 
 uint32_t plain_accept(uint32_t k, uint32_t f1, uint32_t f2);
 uint32_t plain_accept_marking(uint32_t k, uint32_t f1, uint32_t f2); /* marks every position */
@@ -35,5 +36,9 @@ uint32_t plain_addresses(uint32_t k, uint32_t f1, uint32_t f2, uint16_t *list, s
 MOVERS(uint8_t, u8)
 MOVERS(int16_t, i16)
 #undef MOVERS
+
+struct turbo_row plain_turbo_row(uint32_t k);
+uint32_t plain_turbo_encode(uint32_t k, const uint8_t *input, size_t n, uint8_t *restrict d0, size_t n0,
+                            uint8_t *restrict d1, size_t n1, uint8_t *restrict d2, size_t n2);
 
 #endif
