@@ -7,7 +7,7 @@ use native.Mathlib.Decide.{ℕ-discrete}
 use native.Mathlib.Omega.{arith}
 use lib.Dec.{T}
 use Rattle.refusals.specs.Refusals.{Test, First, Answer}
-use Rattle.refusals.proofs.Tests.{first-one, stays, none, passes, numbered}
+use Rattle.refusals.proofs.Tests.{first-one, stays, goes-on, numbered}
 
 module _ {tests own : List Test} {Done Nothing : Type 0} where
   -- what the tests gave is refused
@@ -30,11 +30,11 @@ module _ {tests own : List Test} {Done Nothing : Type 0} where
 
   -- they pass, and those of its own refuse
   pub refuse-late : {n l m : ℕ} → T (numbered tests) → First tests n → n ≡ 0 → m ≡ l → First own l → l ≢ 0 → Nothing → Answer tests own m Done Nothing
-  refuse-late {n} {l} right first z e late ne nothing = refusing e (passes tests own l (none tests right first z) late) ne nothing
+  refuse-late {l = l} right first z e late ne nothing = refusing e (goes-on tests own l right first z late) ne nothing
 
   -- all pass
   pub answer-late : {n l : ℕ} → T (numbered tests) → First tests n → n ≡ 0 → First own l → l ≡ 0 → Done → Answer tests own 0 Done Nothing
-  answer-late {n} {l} right first z late y done = answering (passes tests own l (none tests right first z) late) y done
+  answer-late {l = l} right first z late y done = answering (goes-on tests own l right first z late) y done
 
 module _ {tests own : List Test} {n m : ℕ} {Done Nothing Done′ Nothing′ Same : Type 0} where
   -- two answers to the same tests have the same number, and whatever is the same in two answers that are done, and in two that are refused,

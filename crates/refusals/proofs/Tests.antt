@@ -71,3 +71,7 @@ pub none-before : (tests more : List Test) {n : ℕ} → T (numbered tests) → 
 none-before [] more _ f z = tt
 none-before (test ∷ tests) more e (inl p) z = absurd (not-zero (test .number) (numbered tests) e (sym (p .0) ∙ z))
 none-before (test ∷ tests) more e (inr p) z = (p .0, none-before tests more (later (eqb (test .number) 0) (numbered tests) e) (p .1) z)
+
+-- where the first tests gave 0, those that follow decide
+pub goes-on : (tests more : List Test) {n : ℕ} (m : ℕ) → T (numbered tests) → First tests n → n ≡ 0 → First more m → First (tests ++ more) m
+goes-on tests more m right first z late = passes tests more m (none tests right first z) late

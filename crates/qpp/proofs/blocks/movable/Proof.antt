@@ -4,7 +4,7 @@ use borrow.Author.Needs.{needs}
 use Rattle.permuting.specs.Blocks.{marks-of}
 use Rattle.triples.specs.Shuffles.{quadratic}
 use Rattle.refusals.specs.Refusals.{shuffle-tests, block-tests}
-use Rattle.refusals.proofs.Tests.{stays, none, passes}
+use Rattle.refusals.proofs.Tests.{stays, goes-on}
 use Rattle.refusals.proofs.Acceptance.{accepted}
 use Rattle.qpp.proofs.blocks.movable.Statement.{statement}
 use Rattle.qpp.proofs.blocks.movable.Tie as tie
@@ -23,8 +23,7 @@ returns-2 c =
     let a = judged .before .args in
     record {
       first =
-          passes (shuffle-tests (quadratic (a .t))) (block-tests (a .t .k) (marks-of (a .t .k)) (a .block) (a .scratch)) (c .sizes .result)
-          (none (shuffle-tests (quadratic (a .t))) tt (judged .accept .ensures) (omega arith))
+          goes-on (shuffle-tests (quadratic (a .t))) (block-tests (a .t .k) (marks-of (a .t .k)) (a .block) (a .scratch)) (c .sizes .result) tt (judged .accept .ensures) (omega arith)
           (c .sizes .ensures);
     }
 
