@@ -1,47 +1,50 @@
 -- The addresses in a row, each from the one before.
-use mathlib.Core.Path.{_≡_, refl, sym, ap, ap₂, _∙_}
+use mathlib.Core.Path.{_≡_, refl, sym, ap, subst, _∙_}
 use mathlib.Core.List.{List}
 use Prim.Native.Nat.{ℕ, _+_, _*_, _%_, _≤_, _<_}
-use native.Mathlib.Nat.{zero-mod}
+use native.Mathlib.Nat.{zero-mod, mod-eq-of-lt}
 use native.Mathlib.Omega.{arith}
 use lib.ListN.{length, set, length-set}
+use Rattle.numbers.specs.Congruences.{Cong}
 use Rattle.numbers.specs.Lists.{Written}
-use Rattle.numbers.proofs.Congruences.{cong-eq, cong-sym, cong-same, cong-add, cong-mod, _⨾_}
+use Rattle.numbers.proofs.Congruences.{cong-eq, cong-sym, cong-same, cong-add, cong-mod, cong-cancel, _⨾_}
 use Rattle.numbers.proofs.Lists.{written-none, written-more}
 use Rattle.triples.specs.declared.Triple.{Triple}
 use Rattle.triples.specs.declared.striding.Stride.{Stride}
 use Rattle.triples.specs.Shuffles.{f}
 use Rattle.triples.specs.Strides.{gain, Sound, At, Follows}
 
-pub at-start : {t : Triple} {s : Stride} → Sound s → s .k ≡ t .k → s .address ≡ 0 → s .rise ≡ (t .f1 + t .f2) % t .k → s .twice ≡ (t .f2 + t .f2) % t .k → At t 0 s
-at-start {t} sound size zero rise twice =
+pub at-start : {t : Triple} {s : Stride} (down1 down2 : ℕ) → Sound s → s .k ≡ t .k → s .address ≡ 0 → Cong (t .k) (down1 + t .f1) 0
+    → Cong (t .k) (down2 + t .f2) 0 → Cong (t .k) (s .fall + t .f2) down1 → Cong (t .k) (s .twice + down2) (t .f2) → At t 0 s
+at-start {t} {s} down1 down2 sound size zero first second fall twice =
     record {
       sound = sound;
       size = size;
       address = zero ∙ sym (zero-mod (t .k)) ∙ ap (λ (n : ℕ). n % t .k) (omega arith);
-      rise = rise ∙ ap (λ (n : ℕ). n % t .k) (omega arith);
-      twice = twice;
+      fall = cong-eq {y = s .fall + t .f2 + t .f1} (omega arith) ⨾ cong-add fall (cong-eq {x = t .f1} refl) ⨾ first;
+      twice = cong-cancel down2 (cong-eq {y = s .twice + down2} (omega arith) ⨾ twice ⨾ cong-eq {y = 0 + t .f2} (omega arith) ⨾ cong-add (cong-sym second) (cong-eq {x = t .f2} refl) ⨾ cong-eq (omega arith));
     }
 
--- sums of remainders are remainders of sums
-remainders : (k a b c : ℕ) → a + b ≡ c → (a % k + b % k) % k ≡ c % k
-remainders k a b c e = cong-same (cong-add (cong-sym (cong-mod k a)) (cong-sym (cong-mod k b)) ⨾ cong-eq e)
-
-pub at-next : {s r : Stride} → Sound r → r .k ≡ s .k → r .address ≡ (s .address + s .rise) % s .k → r .rise ≡ (s .rise + s .twice) % s .k → r .twice ≡ s .twice → Follows s r
-at-next {s} {r} sound size address rise twice = record { sound = sound; goes = goes }
+pub at-next : {s r : Stride} → Sound r → r .k ≡ s .k → Cong (s .k) (r .address + s .fall) (s .address) → Cong (s .k) (r .fall + s .twice) (s .fall)
+    → r .twice ≡ s .twice → Follows s r
+at-next {s} {r} sound size address fall twice = record { sound = sound; goes = goes }
   where
     goes : (t : Triple) (x : ℕ) → At t x s → At t (x + 1) r
     goes t x at =
+        let down = subst (λ (k : ℕ). Cong k (r .address + s .fall) (s .address)) (at .size) address in
+        let further = subst (λ (k : ℕ). Cong k (r .fall + s .twice) (s .fall)) (at .size) fall in
         record {
           sound = sound;
           size = size ∙ at .size;
           address =
-              address ∙ ap (λ (k : ℕ). (s .address + s .rise) % k) (at .size) ∙ ap₂ (λ (a b : ℕ). (a + b) % t .k) (at .address) (at .rise)
-              ∙ remainders (t .k) (t .f1 * x + t .f2 * (x * x)) (gain t x) (t .f1 * (x + 1) + t .f2 * ((x + 1) * (x + 1))) (omega arith);
-          rise =
-              rise ∙ ap (λ (k : ℕ). (s .rise + s .twice) % k) (at .size) ∙ ap₂ (λ (a b : ℕ). (a + b) % t .k) (at .rise) (at .twice)
-              ∙ remainders (t .k) (gain t x) (t .f2 + t .f2) (gain t (x + 1)) (omega arith);
-          twice = twice ∙ at .twice;
+              sym (mod-eq-of-lt (omega (arith, sound .address, size, at .size)))
+              ∙ cong-same
+              (cong-eq {y = r .address + 0} (omega arith) ⨾ cong-add (cong-eq {x = r .address} refl) (cong-sym (at .fall)) ⨾ cong-eq {y = r .address + s .fall + gain t x} (omega arith)
+              ⨾ cong-add (down ⨾ cong-eq (at .address) ⨾ cong-sym (cong-mod (t .k) (t .f1 * x + t .f2 * (x * x)))) (cong-eq {x = gain t x} refl) ⨾ cong-eq (omega arith));
+          fall =
+              cong-eq {y = r .fall + (t .f2 + t .f2) + gain t x} (omega arith)
+              ⨾ cong-add (cong-add (cong-eq {x = r .fall} refl) (cong-sym (at .twice)) ⨾ further) (cong-eq {x = gain t x} refl) ⨾ at .fall;
+          twice = cong-eq twice ⨾ at .twice;
         }
 
 -- Of each triple at whose start a stride stood: the places below x are written, the others are not, and the stride stands at x.

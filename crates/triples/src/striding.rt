@@ -1,25 +1,25 @@
 // The addresses one after the other, each from the one before, with no division.
 use crate::Triple;
-ghost use mathlib.Core.Path.{_≡_};
-ghost use Prim.Native.Nat.{_+_, _%_, _≤_, _<_};
+ghost use Prim.Native.Nat.{_+_, _≤_, _<_};
+ghost use Rattle.numbers.specs.Congruences.{Cong};
 ghost use Rattle.triples.specs.Shuffles.{InRange};
 ghost use Rattle.triples.specs.Strides.{Sound, At, Follows};
 
-// An address, how much f rises from it to the next, and how much that rises: f rises by f1 + f2·(2x + 1), and that by 2·f2.
+// An address, how far it is down to the next, and how far that goes down each time: f rises by f1 + f2·(2x + 1), and that by 2·f2. It is
+// counted down modulo k, since a difference tells of itself whether it went below 0, and a sum is compared with k.
 pub struct Stride {
     pub k: usize,
     pub address: usize,
-    pub rise: usize,
+    pub fall: usize,
     pub twice: usize,
 }
 
-// The sum of two remainders modulo k.
-fn plus(a: usize, b: usize, k: usize) -> usize
+// The difference of two remainders modulo k.
+fn minus(a: usize, b: usize, k: usize) -> usize
     requires { ⌜ (a < k) × (b < k) × (k ≤ 8192) ⌝ }
-    ensures { λ r. ⌜ (r ≡ (a + b) % k) × (r < k) ⌝ }
+    ensures { λ r. ⌜ Cong k (r + b) a × (r < k) ⌝ }
 {
-    let sum = a + b;
-    if sum < k { sum } else { sum - k }
+    if a < b { a + k - b } else { a - b }
 }
 
 // At position 0.
@@ -30,11 +30,13 @@ pub fn start(t: Triple) -> Stride
     let k = t.k as usize;
     let f1 = t.f1 as usize;
     let f2 = t.f2 as usize;
+    let down1 = minus(0, f1, k);
+    let down2 = minus(0, f2, k);
     Stride {
         k,
         address: 0,
-        rise: plus(f1, f2, k),
-        twice: plus(f2, f2, k),
+        fall: minus(down1, f2, k),
+        twice: minus(f2, down2, k),
     }
 }
 
@@ -45,8 +47,8 @@ pub fn next(s: Stride) -> Stride
 {
     Stride {
         k: s.k,
-        address: plus(s.address, s.rise, s.k),
-        rise: plus(s.rise, s.twice, s.k),
+        address: minus(s.address, s.fall, s.k),
+        fall: minus(s.fall, s.twice, s.k),
         twice: s.twice,
     }
 }
