@@ -14,7 +14,7 @@ use Rattle.triples.specs.Shuffles.{f}
 use Rattle.triples.specs.Strides.{Sound, At, Follows}
 use Rattle.coding.specs.Coders.{Coding}
 use Rattle.coding.specs.Streams.{block-of, ended, Streams}
-use Rattle.coding.specs.States.{Table, next, parity, Step, state-at, coded-at, parity-at, TailOf, Ends}
+use Rattle.coding.specs.States.{Table, Step, state-at, coded-at, parity-at, TailOf, Ends}
 use Rattle.coding.specs.Passes.{Ready, Passed, Extended, Tailed}
 use Rattle.coding.specs.declared.encoding.States.{States}
 use Rattle.coding.specs.declared.trellis.Coded.{Coded}
@@ -28,9 +28,8 @@ abbrev pub shuffled : Triple → List ℕ → ℕ → ℕ
 shuffled t input i = block-of input (f t i)
 
 -- the places below i are written, the others are not, and coders and addresses stand at i
-pub record Pass (t : Triple) (nexts parities input before0 before1 before2 d0 d1 d2 : List ℕ) (s : Stride) (first second i : ℕ) : Type 0 where
-  pub nexts-are : Table next nexts
-  pub parities-are : Table parity parities
+pub record Pass (t : Triple) (table input before0 before1 before2 d0 d1 d2 : List ℕ) (s : Stride) (first second i : ℕ) : Type 0 where
+  pub follows : Table table
   pub ready : Ready t input (length d0) (length d1) (length d2)
   pub within : i ≤ t .k
   pub at : At t i s
@@ -42,14 +41,13 @@ pub record Pass (t : Triple) (nexts parities input before0 before1 before2 d0 d1
   pub stream1 : Written (parity-at (t .k) (block-of input)) i before1 d1
   pub stream2 : Written (parity-at (t .k) (shuffled t input)) i before2 d2
 
-module _ {t : Triple} {nexts parities input : List ℕ} where
-  pub pass-start : {d0 d1 d2 : List ℕ} {s : Stride} → Table next nexts → Table parity parities → Ready t input (length d0) (length d1) (length d2) → At t 0 s
-      → Pass t nexts parities input d0 d1 d2 d0 d1 d2 s 0 0 0
+module _ {t : Triple} {table input : List ℕ} where
+  pub pass-start : {d0 d1 d2 : List ℕ} {s : Stride} → Table table → Ready t input (length d0) (length d1) (length d2) → At t 0 s
+      → Pass t table input d0 d1 d2 d0 d1 d2 s 0 0 0
   unfolding state-at
-  pass-start nexts-are parities-are ready at =
+  pass-start follows ready at =
       record {
-        nexts-are = nexts-are;
-        parities-are = parities-are;
+        follows = follows;
         ready = ready;
         within = omega arith;
         at = at;
@@ -63,17 +61,16 @@ module _ {t : Triple} {nexts parities input : List ℕ} where
       }
 
   pub pass-step : {before0 before1 before2 d0 d1 d2 : List ℕ} {s s′ : Stride} {first second i : ℕ} {a b : Coded}
-      → Pass t nexts parities input before0 before1 before2 d0 d1 d2 s first second i → i < t .k → Step first (block-of input i) a
+      → Pass t table input before0 before1 before2 d0 d1 d2 s first second i → i < t .k → Step first (block-of input i) a
       → Step second (block-of input (s .address)) b → Follows s s′
-      → Pass t nexts parities input before0 before1 before2 (set d0 i (block-of input i)) (set d1 i (a .parity)) (set d2 i (b .parity)) s′ (a .state) (b .state) (i + 1)
-  pass-step {d0 = d0} {d1 = d1} {d2 = d2} {s = s} {i = i} {a = a} {b = b} p below one two follows =
+      → Pass t table input before0 before1 before2 (set d0 i (block-of input i)) (set d1 i (a .parity)) (set d2 i (b .parity)) s′ (a .state) (b .state) (i + 1)
+  pass-step {d0 = d0} {d1 = d1} {d2 = d2} {s = s} {i = i} {a = a} {b = b} p below one two moved =
       let c = coded-step (t .k) (block-of input) i (p .first-is) (sym (coded-inside (t .k) (block-of input) below)) one in
       let d =
       coded-step (t .k) (shuffled t input) i (p .second-is) (ap (block-of input) (p .at .address) ∙ sym (coded-inside (t .k) (shuffled t input) below)) two in
       let r = p .ready in
       record {
-        nexts-are = p .nexts-are;
-        parities-are = p .parities-are;
+        follows = p .follows;
         ready =
             record {
               range = r .range;
@@ -84,7 +81,7 @@ module _ {t : Triple} {nexts parities input : List ℕ} where
               room2 = omega (arith, r .room2, length-set d2 i (b .parity));
             };
         within = omega arith;
-        at = follows .goes t i (p .at);
+        at = moved .goes t i (p .at);
         first-is = c .state-is;
         second-is = d .state-is;
         first-lt = one .state-lt;
@@ -95,7 +92,7 @@ module _ {t : Triple} {nexts parities input : List ℕ} where
       }
 
   pub pass-end : {before0 before1 before2 d0 d1 d2 : List ℕ} {s : Stride} {first second i : ℕ}
-      → Pass t nexts parities input before0 before1 before2 d0 d1 d2 s first second i → t .k ≤ i
+      → Pass t table input before0 before1 before2 d0 d1 d2 s first second i → t .k ≤ i
       → Passed t input before0 before1 before2 d0 d1 d2 (record { first = first; second = second })
   pass-end {i = i} p h =
       let e : i ≡ t .k = omega (arith, p .within) in

@@ -1,28 +1,37 @@
 -- A coder as a state that moves on: its tables, and that it is the coder of the polynomials.
 use mathlib.Core.Path.{_≡_, refl, sym, ap, ap₂, _∙_, subst}
-use mathlib.Core.Bool.{Bool, true, false, cond}
+use mathlib.Core.Bool.{Bool, true, false, cond, _&&_}
 use mathlib.Core.List.{List, [], _∷_}
 use Prim.Native.Nat.{ℕ, zero, suc, _+_, _*_, _/_, _%_, _≤_, _<_}
 use native.Mathlib.Omega.{arith}
-use lib.Dec.{T, eqb, ltb}
+use lib.Dec.{T, eqb, ltb, eqb→eq}
 use lib.ListN.{length, getD}
 use borrow.Author.Tests.{lt-ltb, le-ltb}
-use Rattle.numbers.proofs.Computation.{every, same-below}
+use Rattle.numbers.proofs.Computation.{both-parts, every, passes}
 use Rattle.coding.specs.Coders.{delayed, picked, output, earlier, feedback, fed-back, Coding}
 use Rattle.coding.specs.States.{drawn, cells, fed, entering, next, parity, Table, Step, state-at, coded-at, parity-at, TailOf, Ends}
 use Rattle.coding.specs.declared.trellis.Coded.{Coded}
 
 -- ---- the tables
 
--- one test over the whole table, and each entry follows the rule
-pub tabled : {rule : ℕ → ℕ → ℕ} {table : List ℕ} → length table ≡ 16 → T (every 16 (λ i. eqb (getD table i 0) (rule (i / 2) (i % 2)))) → Table rule table
-tabled {rule} {table} size test = record { size = size; at = at }
+abbrev pub follows : List ℕ → ℕ → Bool
+follows table i = eqb (getD table (2 * i) 0) (next (i / 2) (i % 2)) && eqb (getD table (2 * i + 1) 0) (parity (i / 2) (i % 2))
+
+-- one test over the whole table, and every entry follows the polynomials
+pub tabled : {table : List ℕ} → length table ≡ 32 → T (every 16 (follows table)) → Table table
+tabled {table} size test = record { size = size; nexts = λ s b l m. at s b l m .0; parities = λ s b l m. at s b l m .1 }
   where
-    at : (state bit : ℕ) → state < 8 → bit < 2 → getD table (state * 2 + bit) 0 ≡ rule state bit
-    at state bit s b =
-        let i = state * 2 + bit in
-        same-below 16 (λ i. getD table i 0) (λ i. rule (i / 2) (i % 2)) test i (omega arith)
-        ∙ ap₂ rule {x = i / 2} {y = state} {u = i % 2} {v = bit} (omega arith) (omega arith)
+    at : (state bit : ℕ) → state < 8 → bit < 2
+        → (getD table (bit * 2 + state * 4) 0 ≡ next state bit) × (getD table (bit * 2 + state * 4 + 1) 0 ≡ parity state bit)
+    at state bit l m =
+        let i = 2 * state + bit in
+        let (n, p) = both-parts (eqb (getD table (2 * i) 0) (next (i / 2) (i % 2))) (eqb (getD table (2 * i + 1) 0) (parity (i / 2) (i % 2)))
+        (passes 16 (follows table) test i (omega arith)) in
+        let s : i / 2 ≡ state = omega arith in
+        let b : i % 2 ≡ bit = omega arith in (
+          ap (λ (j : ℕ). getD table j 0) {x = bit * 2 + state * 4} {y = 2 * i} (omega arith) ∙ eqb→eq (getD table (2 * i) 0) (next (i / 2) (i % 2)) n ∙ ap₂ next s b,
+          ap (λ (j : ℕ). getD table j 0) {x = bit * 2 + state * 4 + 1} {y = 2 * i + 1} (omega arith) ∙ eqb→eq (getD table (2 * i + 1) 0) (parity (i / 2) (i % 2)) p ∙ ap₂ parity s b,
+        )
 
 pub next-lt : (state bit : ℕ) → state < 8 → next state bit < 8
 next-lt state bit s = omega arith

@@ -30,10 +30,11 @@ next state bit = 4 * entering state bit + state / 2
 abbrev pub parity : ℕ → ℕ → ℕ
 parity state bit = drawn output (cells (entering state bit) state) % 2
 
--- a table that follows a rule of states and bits
-pub record Table (rule : ℕ → ℕ → ℕ) (table : List ℕ) : Type 0 where
-  pub size : length table ≡ 16
-  pub at : (state bit : ℕ) → state < 8 → bit < 2 → getD table (state * 2 + bit) 0 ≡ rule state bit
+-- a table of next states and parities
+pub record Table (table : List ℕ) : Type 0 where
+  pub size : length table ≡ 32
+  pub nexts : (state bit : ℕ) → state < 8 → bit < 2 → getD table (bit * 2 + state * 4) 0 ≡ next state bit
+  pub parities : (state bit : ℕ) → state < 8 → bit < 2 → getD table (bit * 2 + state * 4 + 1) 0 ≡ parity state bit
 
 -- a bit was coded
 pub record Step (state bit : ℕ) (r : Coded) : Type 0 where

@@ -2,8 +2,7 @@
 use crate::trellis::Tail;
 use crate::trellis::code_bit;
 use crate::trellis::end;
-use crate::trellis::nexts;
-use crate::trellis::parities;
+use crate::trellis::table;
 use triples::Triple;
 use triples::striding::next;
 use triples::striding::start;
@@ -25,8 +24,7 @@ fn code_block(t: Triple, input: &[u8], d0: &mut [u8], d1: &mut [u8], d2: &mut [u
     requires { ⌜ Ready t (now input) (length (now d0)) (length (now d1)) (length (now d2)) ⌝ }
     ensures { λ r. ⌜ Passed t (now (input .entry)) (now (d0 .entry)) (now (d1 .entry)) (now (d2 .entry)) (now (d0 .exit)) (now (d1 .exit)) (now (d2 .exit)) r ⌝ }
 {
-    let nexts = nexts();
-    let parities = parities();
+    let table = table();
     let mut at = start(t);
     let mut first = 0;
     let mut second = 0;
@@ -34,8 +32,8 @@ fn code_block(t: Triple, input: &[u8], d0: &mut [u8], d1: &mut [u8], d2: &mut [u
     while i < t.k as usize {
         let bit = input[i];
         let address = at.address;
-        let plain = code_bit(&nexts, &parities, first, bit);
-        let shuffled = code_bit(&nexts, &parities, second, input[address]);
+        let plain = code_bit(&table, first, bit);
+        let shuffled = code_bit(&table, second, input[address]);
         d0[i] = bit;
         d1[i] = plain.parity;
         d2[i] = shuffled.parity;

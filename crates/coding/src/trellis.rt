@@ -1,25 +1,50 @@
 // A coder: eight states, and a table of what follows each by either bit.
 ghost use mathlib.Core.Path.{_≡_};
 ghost use Prim.Native.Nat.{_<_};
-ghost use Rattle.coding.specs.States.{Table, next, parity, fed, Step, Ends};
+ghost use Rattle.coding.specs.States.{Table, fed, Step, Ends};
 
-// The state after each state and bit, and the parity. Entry 2·state + bit; a state holds the three bits that entered last, the newest
-// of weight 4.
-const NEXT: [u8; 16] = [0, 4, 4, 0, 5, 1, 1, 5, 2, 6, 6, 2, 7, 3, 3, 7];
+// Sixteen entries of two: for each state, by either bit, the next state and the parity. Entry 2·state + bit; a state holds the three bits
+// that entered last, the newest of weight 4.
+const TABLE: [u8; 32] = [
+    0,
+    0,
+    4,
+    1,
+    4,
+    0,
+    0,
+    1,
+    5,
+    1,
+    1,
+    0,
+    1,
+    1,
+    5,
+    0,
+    2,
+    1,
+    6,
+    0,
+    6,
+    1,
+    2,
+    0,
+    7,
+    0,
+    3,
+    1,
+    3,
+    0,
+    7,
+    1,
+];
 
-const PARITY: [u8; 16] = [0, 1, 0, 1, 1, 0, 1, 0, 1, 0, 1, 0, 0, 1, 0, 1];
-
-// The tables are handed out, to be taken once and lent: a constant is laid out anew wherever it is named.
-pub fn nexts() -> [u8; 16]
-    ensures { λ table. ⌜ Table next table ⌝ }
+// It is handed out, to be taken once and lent: a constant is laid out anew wherever it is named.
+pub fn table() -> [u8; 32]
+    ensures { λ table. ⌜ Table table ⌝ }
 {
-    NEXT
-}
-
-pub fn parities() -> [u8; 16]
-    ensures { λ table. ⌜ Table parity table ⌝ }
-{
-    PARITY
+    TABLE
 }
 
 pub struct Coded {
@@ -37,14 +62,15 @@ pub struct Tail {
     pub z2: u8,
 }
 
-pub fn code_bit(nexts: &[u8; 16], parities: &[u8; 16], state: usize, bit: u8) -> Coded
-    requires { ⌜ Table next (now nexts) × Table parity (now parities) × (state < 8) × (bit < 2) ⌝ }
+// In this order the bit's part of the place is there before the state's.
+pub fn code_bit(table: &[u8; 32], state: usize, bit: u8) -> Coded
+    requires { ⌜ Table (now table) × (state < 8) × (bit < 2) ⌝ }
     ensures { λ r. ⌜ Step state bit r ⌝ }
 {
-    let at = state * 2 + bit as usize;
+    let at = bit as usize * 2 + state * 4;
     Coded {
-        state: nexts[at] as usize,
-        parity: parities[at],
+        state: table[at] as usize,
+        parity: table[at + 1],
     }
 }
 
@@ -61,14 +87,13 @@ pub fn end(state: usize) -> Tail
     requires { ⌜ state < 8 ⌝ }
     ensures { λ r. ⌜ Ends state r ⌝ }
 {
-    let nexts = nexts();
-    let parities = parities();
+    let table = table();
     let x0 = fed_back(state);
-    let first = code_bit(&nexts, &parities, state, x0);
+    let first = code_bit(&table, state, x0);
     let x1 = fed_back(first.state);
-    let second = code_bit(&nexts, &parities, first.state, x1);
+    let second = code_bit(&table, first.state, x1);
     let x2 = fed_back(second.state);
-    let third = code_bit(&nexts, &parities, second.state, x2);
+    let third = code_bit(&table, second.state, x2);
     Tail {
         x0,
         x1,
