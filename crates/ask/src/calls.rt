@@ -20,10 +20,16 @@ ghost use Prim.Native.Nat.{_≤_};
 ghost use lib.ListN.{length};
 
 // The bytes of a row: a name, filled up with spaces, and the kind of the call. It takes three numbers or four, 3 or 4; or
-// three and a list, whose letter stands here.
+// three and a list, whose letter stands here. Those of the encoder have kinds of their own.
 const ROW: usize = 18;
 
 const KIND: usize = 17;
+
+pub const LENGTH: u8 = b'1';
+
+pub const ENCODER: u8 = b'e';
+
+pub const ENCODER_CRC: u8 = b'c';
 
 // The row of a name, counted from 1.
 fn find_row(table: &[u8], name: &[u8], mut r: Reader) -> Reader
@@ -65,7 +71,10 @@ pub fn take_call(line: &[u8]) -> Reader
           deinterleave_u8  b\
           interleave_i16   s\
           deinterleave_i16 s\
-          explain          3",
+          explain          3\
+          turbo_row        1\
+          turbo_encode     e\
+          turbo_encode_crc c",
         &line[from..end],
         r,
     )

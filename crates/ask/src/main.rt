@@ -1,5 +1,6 @@
 // The program behind ./ask: reads standard input to its end, and answers each line on standard output.
 mod calls;
+mod encoding;
 mod questions;
 
 // How many bytes are kept of the line that has not ended, and whether the answers so far were written.

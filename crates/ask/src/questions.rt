@@ -1,5 +1,6 @@
 // What a line asks, and the answer to it.
 use crate::calls;
+use crate::encoding;
 use asking::lists::show;
 use asking::lists::take_list;
 use asking::lists::take_scratch;
@@ -26,7 +27,7 @@ fn take_position(line: &[u8], r: Reader) -> Reader
 }
 
 // No word may be left.
-fn ended(line: &[u8], r: Reader) -> Reader
+pub fn ended(line: &[u8], r: Reader) -> Reader
     requires { ⌜ (r .end ≤ length (now line)) × (r .n ≤ 8200) ⌝ }
     ensures { λ s. ⌜ s .n ≤ 8200 ⌝ }
 {
@@ -45,10 +46,10 @@ struct Question {
     last: Reader,
 }
 
-fn read_question(line: &[u8], list: &mut List, scratch: &mut List) -> Question
+fn read_question(line: &[u8], call: Reader, list: &mut List, scratch: &mut List) -> Question
+    requires { ⌜ call .end ≤ length (now line) ⌝ }
     ensures { λ q. ⌜ (q .list .n ≤ 8200) × (q .last .n ≤ 8200) ⌝ }
 {
-    let call = calls::take_call(line);
     let k = take_number(line, call);
     let f1 = take_number(line, k);
     let f2 = take_number(line, f1);
@@ -69,7 +70,7 @@ fn read_question(line: &[u8], list: &mut List, scratch: &mut List) -> Question
     }
 }
 
-fn complain(r: Reader) {
+pub fn complain(r: Reader) {
     say(b"? word ");
     number(r.word as u32);
     let fault = r.fault;
@@ -96,13 +97,26 @@ fn reply(q: Question, list: &mut List, scratch: &mut List)
     show(q.last.kind, scratch, count)
 }
 
-// Answers a line that comes without its newline.
-pub fn answer(line: &[u8]) {
+// A call of the interleaver.
+fn answer_shuffle(line: &[u8], call: Reader)
+    requires { ⌜ call .end ≤ length (now line) ⌝ }
+{
     let mut list = [0u16; 8200];
     let mut scratch = [0u16; 8200];
-    let q = read_question(line, &mut list, &mut scratch);
+    let q = read_question(line, call, &mut list, &mut scratch);
     if q.last.fault != words::FINE {
         return complain(q.last);
     }
     reply(q, &mut list, &mut scratch)
+}
+
+// Answers a line that comes without its newline.
+pub fn answer(line: &[u8]) {
+    let call = calls::take_call(line);
+    let kind = call.kind;
+    match kind {
+        calls::LENGTH => encoding::answer_row(line, call),
+        calls::ENCODER | calls::ENCODER_CRC => encoding::answer(line, call),
+        _ => answer_shuffle(line, call),
+    }
 }
