@@ -3,7 +3,6 @@ use mathlib.Core.Path.{_≡_, refl, sym, ap, ap₂, _∙_, subst}
 use mathlib.Core.Logic.{by-cases}
 use mathlib.Core.List.{List, [], _∷_}
 use Prim.Native.Nat.{ℕ, zero, suc, _+_, _*_, _%_, _≤_, _<_}
-use native.Mathlib.Nat.{zero-mul}
 use native.Mathlib.Decide.{ℕ-discrete, decLt}
 use native.Mathlib.Omega.{arith}
 use Rattle.coding.specs.Coders.{feedback, output, delayed, picked, earlier, fed-back, Coding}
@@ -20,10 +19,12 @@ picked-same (a ∷ more) b c n same =
     ap₂ (λ (u v : ℕ). a * u + v) (same n (omega arith))
     (picked-same more (delayed b) (delayed c) n (delayed-same b c n (λ m l. same m (omega arith))))
 
+earlier-same : (p : List ℕ) (b c : ℕ → ℕ) (n : ℕ) → ((m : ℕ) → m < n → b m ≡ c m) → picked (earlier p) b n ≡ picked (earlier p) c n
+earlier-same [] b c n same = refl
+earlier-same (a ∷ more) b c n same = let rest = picked-same more (delayed b) (delayed c) n (delayed-same b c n same) in omega (arith, rest)
+
 fed-back-same : (b c : ℕ → ℕ) (n : ℕ) → ((m : ℕ) → m < n → b m ≡ c m) → fed-back b n ≡ fed-back c n
-fed-back-same b c n same =
-    ap (λ (u : ℕ). u % 2)
-    (let rest = picked-same (0 ∷ 1 ∷ 1 ∷ []) (delayed b) (delayed c) n (delayed-same b c n same) in omega (arith, rest))
+fed-back-same b c n same = ap (λ (u : ℕ). u % 2) (earlier-same feedback b c n same)
 
 -- ---- one coding fits
 
