@@ -8,7 +8,7 @@
  * What C must keep: n, n0, n1 and n2 count the bytes of the input and of the three lists; each pointer is good for its
  * length; the input and the lists of one call do not overlap. A buffer of length 0 may be NULL: no call reads or writes
  * through it, and each refuses it by its number (4 for the input, 7 for a list) unless an earlier test refuses. Each
- * call takes less than half a kilobyte of stack.
+ * call takes less than a kilobyte of stack.
  */
 #ifndef SLATTERFORD_TURBO_H
 #define SLATTERFORD_TURBO_H
