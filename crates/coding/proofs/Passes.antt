@@ -11,10 +11,9 @@ use Rattle.numbers.proofs.Lists.{written-none, written-more}
 use Rattle.triples.specs.declared.Triple.{Triple}
 use Rattle.triples.specs.declared.striding.Stride.{Stride}
 use Rattle.triples.specs.Shuffles.{f}
-use Rattle.triples.specs.Strides.{Sound, At, Follows}
-use Rattle.coding.specs.Coders.{Coding}
-use Rattle.coding.specs.Streams.{block-of, ended, Streams}
-use Rattle.coding.specs.States.{Table, Step, state-at, coded-at, parity-at, TailOf, Ends}
+use Rattle.triples.specs.Strides.{At, Follows}
+use Rattle.coding.specs.Streams.{block-of, shuffled, ended, Streams}
+use Rattle.coding.specs.States.{Table, Step, state-at, coded-at, parity-at, Ends}
 use Rattle.coding.specs.Passes.{Ready, Passed, Extended, Tailed}
 use Rattle.coding.specs.declared.encoding.States.{States}
 use Rattle.coding.specs.declared.trellis.Coded.{Coded}
@@ -23,10 +22,6 @@ use Rattle.coding.proofs.States.{state-lt, coded-inside, coded-step, co
 
 -- ---- the loop
 
--- the block that the second coder codes
-abbrev pub shuffled : Triple → List ℕ → ℕ → ℕ
-shuffled t input i = block-of input (f t i)
-
 -- the places below i are written, the others are not, and coders and addresses stand at i
 pub record Pass (t : Triple) (table input before0 before1 before2 d0 d1 d2 : List ℕ) (s : Stride) (first second i : ℕ) : Type 0 where
   pub follows : Table table
@@ -34,12 +29,12 @@ pub record Pass (t : Triple) (table input before0 before1 before2 d0 d1 d2 : Lis
   pub within : i ≤ t .k
   pub at : At t i s
   pub first-is : first ≡ state-at (t .k) (block-of input) i
-  pub second-is : second ≡ state-at (t .k) (shuffled t input) i
+  pub second-is : second ≡ state-at (t .k) (shuffled (f t) input) i
   pub first-lt : first < 8
   pub second-lt : second < 8
   pub stream0 : Written (block-of input) i before0 d0
   pub stream1 : Written (parity-at (t .k) (block-of input)) i before1 d1
-  pub stream2 : Written (parity-at (t .k) (shuffled t input)) i before2 d2
+  pub stream2 : Written (parity-at (t .k) (shuffled (f t) input)) i before2 d2
 
 module _ {t : Triple} {table input : List ℕ} where
   pub pass-start : {d0 d1 d2 : List ℕ} {s : Stride} → Table table → Ready t input (length d0) (length d1) (length d2) → At t 0 s
@@ -67,7 +62,7 @@ module _ {t : Triple} {table input : List ℕ} where
   pass-step {d0 = d0} {d1 = d1} {d2 = d2} {s = s} {i = i} {a = a} {b = b} p below one two moved =
       let c = coded-step (t .k) (block-of input) i (p .first-is) (sym (coded-inside (t .k) (block-of input) below)) one in
       let d =
-      coded-step (t .k) (shuffled t input) i (p .second-is) (ap (block-of input) (p .at .address) ∙ sym (coded-inside (t .k) (shuffled t input) below)) two in
+      coded-step (t .k) (shuffled (f t) input) i (p .second-is) (ap (block-of input) (p .at .address) ∙ sym (coded-inside (t .k) (shuffled (f t) input) below)) two in
       let r = p .ready in
       record {
         follows = p .follows;
@@ -134,15 +129,15 @@ module _ {t : Triple} {input before0 before1 before2 mid0 mid1 mid2 : List ℕ} 
   first-lt = omega (arith, passed .first, state-lt (t .k) (block-of input) (t .k))
 
   pub second-lt : r .second < 8
-  second-lt = omega (arith, passed .second, state-lt (t .k) (shuffled t input) (t .k))
+  second-lt = omega (arith, passed .second, state-lt (t .k) (shuffled (f t) input) (t .k))
 
   pub streams : {p q : Tail} {d0 d1 d2 : List ℕ} → Ends (r .first) p → Ends (r .second) q → Tailed (t .k) p q mid0 mid1 mid2 d0 d1 d2
-      → Streams (t .k) (block-of input) (shuffled t input) before0 before1 before2 d0 d1 d2
+      → Streams (t .k) (block-of input) (shuffled (f t) input) before0 before1 before2 d0 d1 d2
   unfolding coding-of
   streams {p} {q} {d0} {d1} {d2} ended-first ended-second tailed =
       let k = t .k in
       let a = ended-first .ends k (block-of input) (passed .first) in
-      let b = ended-second .ends k (shuffled t input) (passed .second) in
+      let b = ended-second .ends k (shuffled (f t) input) (passed .second) in
       let coded : Written (coded-at k (block-of input)) k before0 mid0 =
       record {
         size = passed .stream0 .size;
@@ -151,7 +146,7 @@ module _ {t : Triple} {input before0 before1 before2 mid0 mid1 mid2 : List ℕ} 
       } in
       record {
         first = coding-of k (block-of input);
-        second = coding-of k (shuffled t input);
+        second = coding-of k (shuffled (f t) input);
         stream0 = ended-written coded (subst (λ (tail : List ℕ). Extended k tail mid0 d0) (λ i. a .x0 i ∷ a .z1 i ∷ b .x0 i ∷ b .z1 i ∷ []) (tailed .tail0));
         stream1 = ended-written (passed .stream1) (subst (λ (tail : List ℕ). Extended k tail mid1 d1) (λ i. a .z0 i ∷ a .x2 i ∷ b .z0 i ∷ b .x2 i ∷ []) (tailed .tail1));
         stream2 = ended-written (passed .stream2) (subst (λ (tail : List ℕ). Extended k tail mid2 d2) (λ i. a .x1 i ∷ a .z2 i ∷ b .x1 i ∷ b .z2 i ∷ []) (tailed .tail2));

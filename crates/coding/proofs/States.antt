@@ -1,14 +1,14 @@
 -- A coder as a state that moves on: its tables, and that it is the coder of the polynomials.
-use mathlib.Core.Path.{_≡_, refl, sym, ap, ap₂, _∙_, subst}
-use mathlib.Core.Bool.{Bool, true, false, cond, _&&_}
+use mathlib.Core.Path.{_≡_, refl, sym, ap, ap₂, _∙_}
+use mathlib.Core.Bool.{Bool, cond, _&&_}
 use mathlib.Core.List.{List, [], _∷_}
 use Prim.Native.Nat.{ℕ, zero, suc, _+_, _*_, _/_, _%_, _≤_, _<_}
 use native.Mathlib.Omega.{arith}
-use lib.Dec.{T, eqb, ltb, eqb→eq}
+use lib.Dec.{T, eqb, eqb→eq}
 use lib.ListN.{length, getD}
 use borrow.Author.Tests.{lt-ltb, le-ltb}
 use Rattle.numbers.proofs.Computation.{both-parts, every, passes}
-use Rattle.coding.specs.Coders.{delayed, picked, output, earlier, feedback, fed-back, Coding}
+use Rattle.coding.specs.Coders.{delayed, output, earlier, feedback, fed-back, Coding}
 use Rattle.coding.specs.States.{drawn, cells, fed, entering, next, parity, Table, Step, state-at, coded-at, parity-at, TailOf, Ends}
 use Rattle.coding.specs.declared.trellis.Coded.{Coded}
 
@@ -35,9 +35,6 @@ tabled {table} size test = record { size = size; nexts = λ s b l m. at s b l m 
 
 pub next-lt : (state bit : ℕ) → state < 8 → next state bit < 8
 next-lt state bit s = omega arith
-
-pub parity-lt : (state bit : ℕ) → parity state bit < 2
-parity-lt state bit = omega arith
 
 -- ---- the states
 

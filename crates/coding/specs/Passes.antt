@@ -6,7 +6,7 @@ use lib.ListN.{length, getD}
 use Rattle.numbers.specs.Lists.{Written}
 use Rattle.triples.specs.declared.Triple.{Triple}
 use Rattle.triples.specs.Shuffles.{f, InRange}
-use Rattle.coding.specs.Streams.{block-of}
+use Rattle.coding.specs.Streams.{block-of, shuffled}
 use Rattle.coding.specs.States.{state-at, parity-at}
 use Rattle.coding.specs.declared.encoding.States.{States}
 use Rattle.coding.specs.declared.trellis.Tail.{Tail}
@@ -24,9 +24,9 @@ pub record Ready (t : Triple) (input : List ℕ) (n0 n1 n2 : ℕ) : Type 0 where
 pub record Passed (t : Triple) (input before0 before1 before2 d0 d1 d2 : List ℕ) (r : States) : Type 0 where
   pub stream0 : Written (block-of input) (t .k) before0 d0
   pub stream1 : Written (parity-at (t .k) (block-of input)) (t .k) before1 d1
-  pub stream2 : Written (parity-at (t .k) (λ i. block-of input (f t i))) (t .k) before2 d2
+  pub stream2 : Written (parity-at (t .k) (shuffled (f t) input)) (t .k) before2 d2
   pub first : r .first ≡ state-at (t .k) (block-of input) (t .k)
-  pub second : r .second ≡ state-at (t .k) (λ i. block-of input (f t i)) (t .k)
+  pub second : r .second ≡ state-at (t .k) (shuffled (f t) input) (t .k)
 
 -- After k entries that follow some rule further ones were written, which follow it too if they are those of the rule.
 pub record Extended (k : ℕ) (entries list after : List ℕ) : Type 0 where

@@ -41,7 +41,6 @@ pub record Step (state bit : ℕ) (r : Coded) : Type 0 where
   pub state-is : r .state ≡ next state bit
   pub parity-is : r .parity ≡ parity state bit
   pub state-lt : r .state < 8
-  pub parity-lt : r .parity < 2
 
 -- the state at time n, and what is coded then: of a block of k bits, and afterwards what is fed back
 unfoldable pub state-at : ℕ → (ℕ → ℕ) → ℕ → ℕ

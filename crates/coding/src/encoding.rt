@@ -10,7 +10,7 @@ ghost use Prim.Native.Nat.{_+_, _≤_, _<_};
 ghost use mathlib.Core.List.{[], _∷_};
 ghost use lib.ListN.{length};
 ghost use Rattle.triples.specs.Shuffles.{f};
-ghost use Rattle.coding.specs.Streams.{Streams, block-of};
+ghost use Rattle.coding.specs.Streams.{Streams, block-of, shuffled};
 ghost use Rattle.coding.specs.Passes.{Ready, Passed, Extended, Tailed};
 
 // The states of the two coders.
@@ -19,7 +19,7 @@ struct States {
     second: usize,
 }
 
-// The bits of the block, and the parities of both coders. An address comes from the one before it by sums.
+// The bits of the block, and the parities of both coders. Each address comes from the one before it.
 fn code_block(t: Triple, input: &[u8], d0: &mut [u8], d1: &mut [u8], d2: &mut [u8]) -> States
     requires { ⌜ Ready t (now input) (length (now d0)) (length (now d1)) (length (now d2)) ⌝ }
     ensures { λ r. ⌜ Passed t (now (input .entry)) (now (d0 .entry)) (now (d1 .entry)) (now (d2 .entry)) (now (d0 .exit)) (now (d1 .exit)) (now (d2 .exit)) r ⌝ }
@@ -69,7 +69,7 @@ fn put_tails(k: usize, p: Tail, q: Tail, d0: &mut [u8], d1: &mut [u8], d2: &mut 
 // The three streams of a block of bits.
 pub fn encode(t: Triple, input: &[u8], d0: &mut [u8], d1: &mut [u8], d2: &mut [u8])
     requires { ⌜ Ready t (now input) (length (now d0)) (length (now d1)) (length (now d2)) ⌝ }
-    ensures { λ _. ⌜ Streams (t .k) (block-of (now (input .entry))) (λ i. block-of (now (input .entry)) (f t i)) (now (d0 .entry)) (now (d1 .entry)) (now (d2 .entry)) (now (d0 .exit)) (now (d1 .exit)) (now (d2 .exit)) ⌝ }
+    ensures { λ _. ⌜ Streams (t .k) (block-of (now (input .entry))) (shuffled (f t) (now (input .entry))) (now (d0 .entry)) (now (d1 .entry)) (now (d2 .entry)) (now (d0 .exit)) (now (d1 .exit)) (now (d2 .exit)) ⌝ }
 {
     let states = code_block(t, input, d0, d1, d2);
     let p = end(states.first);

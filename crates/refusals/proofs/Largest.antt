@@ -1,12 +1,12 @@
 -- The largest of some numbers, found one after the other.
 use mathlib.Core.Path.{_≡_, refl, _∙_, subst, sym}
 use mathlib.Core.Logic.{_⊎_, inl, inr, ⊎-elim}
-use mathlib.Core.List.{List, [], _∷_}
+use mathlib.Core.List.{List}
 use Prim.Native.Nat.{ℕ, _+_, _≤_, _<_}
 use native.Mathlib.Decide.{ℕ-discrete}
 use native.Mathlib.Omega.{arith}
 use lib.ListN.{length, getD}
-use Rattle.refusals.specs.Refusals.{First, no-bits}
+use Rattle.refusals.specs.Refusals.{no-bits}
 use Rattle.refusals.specs.Largest.{Larger, Largest}
 
 pub record Searched (list : List ℕ) (end n most : ℕ) : Type 0 where

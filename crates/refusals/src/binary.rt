@@ -2,7 +2,6 @@
 use crate::DONE;
 use crate::NO_BLOCK;
 ghost use mathlib.Core.List.{[], _∷_};
-ghost use Prim.Native.Nat.{_≤_};
 ghost use lib.ListN.{length};
 ghost use Rattle.refusals.specs.Refusals.{First, no-block, no-bits};
 ghost use Rattle.refusals.specs.Largest.{Larger, Largest};

@@ -2,13 +2,14 @@
 use mathlib.Core.Path.{_≡_, refl}
 use mathlib.Core.Logic.{_≢_, by-cases}
 use mathlib.Core.List.{List, [], _∷_, _++_}
-use Prim.Native.Nat.{ℕ, _+_, _≤_, _<_}
-use native.Mathlib.Decide.{ℕ-discrete, decLt}
+use Prim.Native.Nat.{ℕ, _+_}
+use native.Mathlib.Decide.{decLt}
 use native.Mathlib.Omega.{arith}
 use lib.ListN.{length, List·getD-eq-default}
 use Rattle.triples.specs.declared.Triple.{Triple}
 use Rattle.refusals.specs.Refusals.{Test, First, no-block, no-bits, no-list}
 use Rattle.refusals.proofs.Tests.{none, stays, goes-on}
+use Rattle.refusals.proofs.Lengths.{fits, long}
 use Rattle.standard.specs.Rows.{Row}
 use Rattle.standard.proofs.Rows.{row-shuffle}
 use Rattle.coding.specs.Streams.{block-of}
@@ -48,14 +49,11 @@ ready {t} input n0 n1 n2 row first z =
     let h = none (lent-tests (t .k) input n0 n1 n2) tt first z in
     record {
       range = row-shuffle row .range;
-      size = by-cases (ℕ-discrete (length input) (t .k)) (λ e. e) (λ ne. absurd (h .0 ne));
+      size = fits (h .0);
       bits = λ i. by-cases (decLt i (length input))
           (λ l. by-cases (decLt 1 (block-of input i)) (λ g. absurd (h .1 .0 (i, l, g))) (λ g. omega arith))
           (λ l. omega (arith, List·getD-eq-default input 0 {n = i} (omega arith)));
-      room0 = long (h .1 .1 .0);
-      room1 = long (h .1 .1 .1 .0);
-      room2 = long (h .1 .1 .1 .1 .0);
+      room0 = long (t .k + 4) n0 refl (h .1 .1 .0);
+      room1 = long (t .k + 4) n1 refl (h .1 .1 .1 .0);
+      room2 = long (t .k + 4) n2 refl (h .1 .1 .1 .1 .0);
     }
-  where
-    long : {size : ℕ} → ¬ (no-list (λ m. m ≡ t .k + 4) size .applies) → t .k + 4 ≤ size
-    long {size} not = by-cases (decLt size (t .k + 4)) (λ l. absurd (not (t .k + 4, refl, l))) (λ l. omega arith)

@@ -1,15 +1,13 @@
 -- The answers on the standard's row of a length.
-use mathlib.Core.Path.{_≡_, refl, sym, ap, subst, _∙_}
+use mathlib.Core.Path.{_≡_, refl, sym, ap, _∙_}
 use mathlib.Core.Logic.{inl, inr}
-use Prim.Native.Nat.{ℕ, _≤_, _<_}
+use Prim.Native.Nat.{ℕ, _<_}
 use native.Mathlib.Omega.{arith}
 use Rattle.triples.specs.declared.Triple.{Triple}
 use Rattle.triples.specs.Shuffles.{triple}
 use Rattle.refusals.proofs.Answers.{refusing, answering}
 use Rattle.standard.specs.Rows.{rowAt, Row, HasRow}
-use Rattle.standard.proofs.Rows.{row-length}
-use Rattle.turbo.specs.Promises.{row-tests, RowOf}
-use Rattle.turbo.specs.declared.lengths.Row as declared
+use Rattle.turbo.specs.Promises.{RowOf}
 
 pub no-row-answer : {k : ℕ} → ¬ HasRow k → RowOf k (record { number = 9; f1 = 0; f2 = 0 })
 no-row-answer {k} none = refusing {n = 9} refl (inl (refl, none)) (λ z. omega arith) (refl, refl)
@@ -18,10 +16,3 @@ pub row-answer : {k i : ℕ} {t : Triple} → rowAt i .k ≡ k → i < 188 → t
 row-answer {k} {i} {t} length within e =
     let row : Row (triple k (t .f1) (t .f2)) = record { place = i; within = within; listed = sym e ∙ λ j. record { k = (ap (λ (u : Triple). u .k) e ∙ length) j; f1 = t .f1; f2 = t .f2 } } in
     answering {n = 0} (inr ((λ not. not (triple k (t .f1) (t .f2), refl, row)), refl)) refl row
-
--- the row of a length that has one
-pub row-of : {k : ℕ} {r : declared.Row} → RowOf k r → r .number ≡ 0 → Row (triple k (r .f1) (r .f2))
-row-of a z = a .done z
-
-pub length-high : {t : Triple} → Row t → t .k ≤ 6144
-length-high row = row-length row .1

@@ -1,9 +1,7 @@
 -- The second coder codes the block as the interleaver moves it.
 use mathlib.Core.Path.{_≡_, refl, sym, subst, _∙_}
 use mathlib.Core.List.{List}
-use mathlib.Core.Logic.{by-cases}
 use Prim.Native.Nat.{ℕ, _<_}
-use native.Mathlib.Decide.{ℕ-discrete}
 use native.Mathlib.Omega.{arith}
 use lib.ListN.{length, getD}
 use Rattle.permuting.specs.Permutations.{Interleaved}
@@ -11,6 +9,7 @@ use Rattle.permuting.specs.Blocks.{interleave}
 use Rattle.triples.specs.declared.Triple.{Triple}
 use Rattle.triples.specs.Shuffles.{triple, f, quadratic}
 use Rattle.refusals.proofs.Tests.{none, splits}
+use Rattle.refusals.proofs.Lengths.{fits}
 use Rattle.standard.proofs.Rows.{row-one}
 use Rattle.coding.specs.Coders.{Coding}
 use Rattle.coding.specs.Streams.{block-of}
@@ -25,8 +24,7 @@ module _ {k : ℕ} {input before0 before1 before2 d0 d1 d2 : List ℕ} where
   encoded-size : Encodes k input before0 before1 before2 0 d0 d1 d2 → length input ≡ k
   encoded-size a =
       let own = lent-tests k input (length before0) (length before1) (length before2) in
-      let h = none own tt (splits (row-tests k) own tt (a .first) refl) refl in
-      by-cases (ℕ-discrete (length input) k) (λ e. e) (λ ne. absurd (h .0 ne))
+      fits (none own tt (splits (row-tests k) own tt (a .first) refl) refl .0)
 
   -- the third stream is the parity of the interleaved block, coded plainly
   pub third-stream : (e : Encoded k input before0 before1 before2 d0 d1 d2) {shuffled : List ℕ} → length input ≡ k → Interleaved 0 (f (e .row)) input shuffled

@@ -7,7 +7,7 @@ use Rattle.triples.specs.Shuffles.{triple, f}
 use Rattle.refusals.proofs.Answers.{answer-one}
 use Rattle.standard.specs.Rows.{Row}
 use Rattle.standard.proofs.Rows.{row-one}
-use Rattle.coding.specs.Streams.{block-of}
+use Rattle.coding.specs.Streams.{shuffled}
 use Rattle.coding.proofs.Streams.{streams-one}
 use Rattle.turbo.specs.Promises.{RowOf, Encoded, Encodes}
 use Rattle.turbo.specs.declared.lengths.Row as declared
@@ -23,7 +23,7 @@ module _ {k : ℕ} {input before0 before1 before2 d0 d1 d2 e0 e1 e2 : List ℕ} 
   encoded-one : Encoded k input before0 before1 before2 d0 d1 d2 → Encoded k input before0 before1 before2 e0 e1 e2 → (d0 ≡ e0) × (d1 ≡ e1) × (d2 ≡ e2)
   encoded-one a b =
       let e : a .row ≡ b .row = row-one (a .listed) (b .listed) (a .length-is ∙ sym (b .length-is)) in
-      streams-one (λ i _. refl) (λ i _. ap (λ (t : Triple). block-of input (f t i)) e) (a .streams) (b .streams)
+      streams-one (λ i _. refl) (λ i _. ap (λ (t : Triple). shuffled (f t) input i) e) (a .streams) (b .streams)
 
   pub encodes-one : {n m : ℕ} → Encodes k input before0 before1 before2 n d0 d1 d2 → Encodes k input before0 before1 before2 m e0 e1 e2
       → (n ≡ m) × (d0 ≡ e0) × (d1 ≡ e1) × (d2 ≡ e2)

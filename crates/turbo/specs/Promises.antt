@@ -7,7 +7,7 @@ use Rattle.triples.specs.declared.Triple.{Triple}
 use Rattle.triples.specs.Shuffles.{triple, f}
 use Rattle.refusals.specs.Refusals.{Test, Answer, no-row, no-block, no-bits, no-list}
 use Rattle.standard.specs.Rows.{Row, HasRow}
-use Rattle.coding.specs.Streams.{block-of, Streams}
+use Rattle.coding.specs.Streams.{block-of, shuffled, Streams}
 use Rattle.turbo.specs.declared.lengths.Row as declared
 
 -- The tests of a length, and then those of an input and of three lists of these lengths.
@@ -22,12 +22,12 @@ lent-tests k input n0 n1 n2 =
 abbrev pub RowOf : ℕ → declared.Row → Type 0
 RowOf k r = Answer (row-tests k) [] (r .number) (Row (triple k (r .f1) (r .f2))) ((r .f1 ≡ 0) × (r .f2 ≡ 0))
 
--- By the standard's row of its length, the three streams of an input: the second coder codes at place i the bit that stands at f(i).
+-- The three streams of an input: the first coder codes it as it stands, the second as the standard's row of its length shuffles it.
 pub record Encoded (k : ℕ) (input before0 before1 before2 d0 d1 d2 : List ℕ) : Type 0 where
   pub row : Triple
   pub listed : Row row
   pub length-is : row .k ≡ k
-  pub streams : Streams k (block-of input) (λ i. block-of input (f row i)) before0 before1 before2 d0 d1 d2
+  pub streams : Streams k (block-of input) (shuffled (f row) input) before0 before1 before2 d0 d1 d2
 
 -- An input is encoded: the number, and the three lists after the call; a refused call leaves them as they came.
 abbrev pub Encodes : ℕ → List ℕ → List ℕ → List ℕ → List ℕ → ℕ → List ℕ → List ℕ → List ℕ → Type 0

@@ -3,7 +3,6 @@ use crate::lengths::turbo_row;
 use refusals::DONE;
 use triples::Triple;
 ghost use Prim.Native.Nat.{_≤_};
-ghost use lib.ListN.{length};
 ghost use Rattle.refusals.specs.Refusals.{First};
 ghost use Rattle.turbo.specs.Promises.{lent-tests, Encodes};
 

@@ -1,7 +1,7 @@
 -- The table at this state and bit.
 use native.Mathlib.Omega.{arith}
 use borrow.Author.Needs.{needs}
-use Rattle.coding.proofs.States.{next-lt, parity-lt}
+use Rattle.coding.proofs.States.{next-lt}
 use Rattle.coding.proofs.trellis.code_bit.Statement.{statement}
 use Rattle.coding.proofs.trellis.code_bit.Tie as tie
 
@@ -19,7 +19,6 @@ returns c =
       state-is = nexts;
       parity-is = parities;
       state-lt = omega (arith, nexts, next-lt (a .state) (a .bit) (omega arith));
-      parity-lt = omega (arith, parities, parity-lt (a .state) (a .bit));
     }
 
 pub code-bit-spec : {M : Type 1} → statement M

@@ -1,9 +1,6 @@
 -- The search finds the row of the length, or there is none.
-use mathlib.Core.Path.{refl}
-use mathlib.Core.Logic.{inl, inr}
 use native.Mathlib.Omega.{arith}
 use borrow.Author.Needs.{needs}
-use Rattle.refusals.proofs.Answers.{refusing, answering}
 use Rattle.turbo.proofs.Rows.{no-row-answer, row-answer}
 use Rattle.turbo.proofs.lengths.turbo_row.Statement.{statement}
 use Rattle.turbo.proofs.lengths.turbo_row.Tie as tie
