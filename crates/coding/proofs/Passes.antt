@@ -7,7 +7,7 @@ use native.Mathlib.Omega.{arith}
 use lib.ListN.{length, getD, set, length-set}
 use borrow.Author.Tests.{lt-ltb, le-ltb}
 use Rattle.numbers.specs.Lists.{Written}
-use Rattle.numbers.proofs.Lists.{written-none, written-more}
+use Rattle.numbers.proofs.Lists.{written-none, written-more, written-same}
 use Rattle.triples.specs.declared.Triple.{Triple}
 use Rattle.triples.specs.declared.striding.Stride.{Stride}
 use Rattle.triples.specs.Shuffles.{f}
@@ -110,16 +110,18 @@ four-more k a b c d list room = record { size = simp length-set refl; extends = 
     extends rule before w at =
         let one = written-more a w (omega arith) (at 0 (omega arith) ∙ ap rule {x = k + 0} {y = k} (omega arith)) in
         let two = written-more b one (simp length-set (omega arith)) (at 1 (omega arith)) in
-        let three = written-more c (subst (λ (n : ℕ). Written rule n before (set (set list k a) (k + 1) b)) {x = k + 1 + 1} {y = k + 2} (omega arith) two) (simp length-set (omega arith)) (at 2 (omega arith)) in
-        let four = written-more d (subst (λ (n : ℕ). Written rule n before (set (set (set list k a) (k + 1) b) (k + 2) c)) {x = k + 2 + 1} {y = k + 3} (omega arith) three) (simp length-set (omega arith)) (at 3 (omega arith)) in
-        subst (λ (n : ℕ). Written rule n before (set (set (set (set list k a) (k + 1) b) (k + 2) c) (k + 3) d)) {x = k + 3 + 1} {y = k + 4} (omega arith) four
+        let three = written-more c (up (omega arith) two) (simp length-set (omega arith)) (at 2 (omega arith)) in
+        let four = written-more d (up (omega arith) three) (simp length-set (omega arith)) (at 3 (omega arith)) in
+        up (omega arith) four
+      where
+        up : {n m : ℕ} {list : List ℕ} → n ≡ m → Written rule n before list → Written rule m before list
+        up {list = list} e w = subst (λ (n : ℕ). Written rule n before list) e w
 
 -- bits and then a tail
 pub ended-written : {k : ℕ} {bits : ℕ → ℕ} {tail before list after : List ℕ} → Written bits k before list → Extended k tail list after
     → Written (ended k bits tail) (k + length tail) before after
 ended-written {k} {bits} {tail} {before} w e =
-    e .extends (ended k bits tail) before
-    (record { size = w .size; entries = λ i h. w .entries i h ∙ sym (ap (λ (b : Bool). cond b (bits i) (getD tail (i - k) 0)) (lt-ltb i k h)); rest = w .rest })
+    e .extends (ended k bits tail) before (written-same (λ i h. sym (ap (λ (b : Bool). cond b (bits i) (getD tail (i - k) 0)) (lt-ltb i k h))) w)
     (λ j h. sym (ap (λ (b : Bool). cond b (bits (k + j)) (getD tail (k + j - k) 0)) (le-ltb (k + j) k (omega arith)) ∙ ap (λ (n : ℕ). getD tail n 0) {x = k + j - k} {y = j} (omega arith)))
 
 -- ---- the three streams
@@ -138,12 +140,7 @@ module _ {t : Triple} {input before0 before1 before2 mid0 mid1 mid2 : List ℕ} 
       let k = t .k in
       let a = ended-first .ends k (block-of input) (passed .first) in
       let b = ended-second .ends k (shuffled (f t) input) (passed .second) in
-      let coded : Written (coded-at k (block-of input)) k before0 mid0 =
-      record {
-        size = passed .stream0 .size;
-        entries = λ i h. passed .stream0 .entries i h ∙ sym (coded-inside k (block-of input) h);
-        rest = passed .stream0 .rest;
-      } in
+      let coded : Written (coded-at k (block-of input)) k before0 mid0 = written-same (λ i h. sym (coded-inside k (block-of input) h)) (passed .stream0) in
       record {
         first = coding-of k (block-of input);
         second = coding-of k (shuffled (f t) input);

@@ -1,4 +1,4 @@
--- A coder as a state that moves on: its tables, and that it is the coder of the polynomials.
+-- A coder as a state that moves on: its table, and that it is the coder of the polynomials.
 use mathlib.Core.Path.{_≡_, refl, sym, ap, ap₂, _∙_}
 use mathlib.Core.Bool.{Bool, cond, _&&_}
 use mathlib.Core.List.{List, [], _∷_}
@@ -12,7 +12,7 @@ use Rattle.coding.specs.Coders.{delayed, output, earlier, feedback, fed-
 use Rattle.coding.specs.States.{drawn, cells, fed, entering, next, parity, Table, Step, state-at, coded-at, parity-at, TailOf, Ends}
 use Rattle.coding.specs.declared.trellis.Coded.{Coded}
 
--- ---- the tables
+-- ---- the table
 
 abbrev pub follows : List ℕ → ℕ → Bool
 follows table i = eqb (getD table (2 * i) 0) (next (i / 2) (i % 2)) && eqb (getD table (2 * i + 1) 0) (parity (i / 2) (i % 2))

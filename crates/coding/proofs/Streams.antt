@@ -15,7 +15,7 @@ use Rattle.coding.proofs.Coders.{same-x, same-z}
 -- the same bits and the same tail make the same list
 ended-one : (k : ℕ) {n : ℕ} {bits bits′ : ℕ → ℕ} {tail tail′ before a b : List ℕ} → ((i : ℕ) → bits i ≡ bits′ i) → tail ≡ tail′
     → Written (ended k bits tail) n before a → Written (ended k bits′ tail′) n before b → a ≡ b
-ended-one k same e p q = written-one (written-same (λ i. (λ j. cond (ltb i k) (same i j) (getD (e j) (i - k) 0))) p) q
+ended-one k same e p q = written-one (written-same (λ i _. (λ j. cond (ltb i k) (same i j) (getD (e j) (i - k) 0))) p) q
 
 -- what stands before a tail
 bits-then : (k : ℕ) (bits : ℕ → ℕ) (tail : List ℕ) {before after : List ℕ} → Written (ended k bits tail) (k + 4) before after → (i : ℕ) → i < k

@@ -44,8 +44,9 @@ written-one {rule} {n} {before} {a} {b} p q = ext-getD 0 a b (p .size ∙ sym (q
     at i (yes h) = p .entries i h ∙ sym (q .entries i h)
     at i (no h) = p .rest i (omega arith) ∙ sym (q .rest i (omega arith))
 
-pub written-same : {rule rule′ : ℕ → ℕ} {n : ℕ} {before after : List ℕ} → ((i : ℕ) → rule i ≡ rule′ i) → Written rule n before after → Written rule′ n before after
-written-same e w = record { size = w .size; entries = λ i h. w .entries i h ∙ e i; rest = w .rest }
+-- by another rule that says the same below n
+pub written-same : {rule rule′ : ℕ → ℕ} {n : ℕ} {before after : List ℕ} → ((i : ℕ) → i < n → rule i ≡ rule′ i) → Written rule n before after → Written rule′ n before after
+written-same e w = record { size = w .size; entries = λ i h. w .entries i h ∙ e i h; rest = w .rest }
 
 pub written-take : {rule : ℕ → ℕ} {n : ℕ} {before after : List ℕ} → Written rule n before after → n ≤ length before → length (take n after) ≡ n
 written-take {n = n} {after = after} w fits = length-take-le n after (omega (arith, w .size))

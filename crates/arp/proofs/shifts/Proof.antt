@@ -9,7 +9,7 @@ returns : tie.Need-returns
 returns c =
     let filled = c .before .before in
     let entered = filled .before .before .before .before .before in
-    written-same (without-first (entered .args .form .odd)) (filled .fill .ensures)
+    written-same (λ i _. without-first (entered .args .form .odd) i) (filled .fill .ensures)
 
 pub shifts-spec : {M : Type 1} → statement M
 shifts-spec = tie.close (tie.spec (λ c. search needs) (λ c κs. search needs) (λ c. search needs) returns)
