@@ -62,7 +62,7 @@ pub struct Tail {
     pub z2: u8,
 }
 
-// In this order the bit's part of the place is there before the state's.
+// The bit's part of the place comes first: so it waits for no state, and from state to state there is a single read.
 pub fn code_bit(table: &[u8; 32], state: usize, bit: u8) -> Coded
     requires { ⌜ Table (now table) × (state < 8) × (bit < 2) ⌝ }
     ensures { λ r. ⌜ Step state bit r ⌝ }

@@ -20,7 +20,7 @@ searched-none e = record { largest = record { above = λ i h. absurd (omega arit
 pub searched-more : {list : List ℕ} {end n most r : ℕ} → Searched list end n most → n < end → Larger most (getD list n 0) r → Searched list end (n + 1) r
 searched-more {list} {end} {n} {most} {r} s below l =
     record {
-      largest = record { above = λ i h. at i h (ℕ-discrete i n); one = ⊎-elim (λ e. ⊎-elim (λ z. inl (e ∙ z)) (λ o. inr (o .0, omega (arith, o .1), o .2 ∙ sym e)) (s .largest .one)) (λ e. inr (n, omega arith, sym e)) (l .one) };
+      largest = record { above = λ i h. at i h (ℕ-discrete i n); one = taken (l .one) (s .largest .one) };
       ends = s .ends;
       within = omega arith;
     }
@@ -28,6 +28,14 @@ searched-more {list} {end} {n} {most} {r} s below l =
     at : (i : ℕ) → i < n + 1 → Dec (i ≡ n) → getD list i 0 ≤ r
     at i h (yes e) = subst (λ (j : ℕ). getD list j 0 ≤ r) (sym e) (l .right)
     at i h (no ne) = omega (arith, s .largest .above i (omega arith), l .left)
+
+    Among : ℕ → ℕ → Type 0
+    Among n v = (v ≡ 0) ⊎ ((i : ℕ) × (i < n) × (getD list i 0 ≡ v))
+
+    taken : (r ≡ most) ⊎ (r ≡ getD list n 0) → Among n most → Among (n + 1) r
+    taken (inl e) (inl z) = inl (e ∙ z)
+    taken (inl e) (inr (i, h, there)) = inr (i, omega arith, there ∙ sym e)
+    taken (inr e) _ = inr (n, omega arith, sym e)
 
 pub searched-all : {list : List ℕ} {end n most : ℕ} → Searched list end n most → end ≤ n → Largest list (length list) most
 searched-all {list} {end} {n} {most} s h = let e : n ≡ length list = omega (arith, s .ends, s .within) in subst (λ (m : ℕ). Largest list m most) e (s .largest)

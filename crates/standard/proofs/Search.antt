@@ -9,7 +9,7 @@ use lib.ListN.{getD}
 use Rattle.numbers.proofs.Computation.{every, same-below}
 use Rattle.triples.specs.declared.Triple.{Triple}
 use Rattle.triples.specs.Shuffles.{triple}
-use Rattle.standard.specs.Rows.{rowAt}
+use Rattle.standard.specs.Rows.{rowAt, Row}
 use Rattle.standard.specs.Search.{Column, Found}
 
 pub column : {number : Triple → ℕ} {list : List ℕ} → T (every 188 (λ i. eqb (getD list i 0) (number (rowAt i)))) → Column number list
@@ -31,3 +31,9 @@ module _ {lengths : List ℕ} (length : Column (λ t. t .k) lengths) where
         missed = λ _ (t, e, row).
             none (row .place) (row .within) (length .at (row .place) (row .within) ∙ ap (λ (t : Triple). t .k) (row .listed) ∙ e);
       }
+
+-- what stands at the place that was found is the row of the length
+pub found-row : {k i : ℕ} {t : Triple} → Found k i → i < 188 → t ≡ rowAt i → Row (triple k (t .f1) (t .f2))
+found-row {k} {i} {t} found l e =
+    let length : t .k ≡ k = ap (λ (u : Triple). u .k) e ∙ found .found l in
+    record { place = i; within = l; listed = sym e ∙ λ j. record { k = length j; f1 = t .f1; f2 = t .f2 } }

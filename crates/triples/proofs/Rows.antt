@@ -7,7 +7,7 @@ use native.Mathlib.Omega.{arith}
 use lib.ListN.{length, set, length-set}
 use Rattle.numbers.specs.Congruences.{Cong}
 use Rattle.numbers.specs.Lists.{Written}
-use Rattle.numbers.proofs.Congruences.{cong-eq, cong-sym, cong-same, cong-add, cong-mod, cong-cancel, _⨾_}
+use Rattle.numbers.proofs.Congruences.{cong-eq, cong-sym, cong-same, cong-add, cong-mod, _⨾_}
 use Rattle.numbers.proofs.Lists.{written-none, written-more}
 use Rattle.triples.specs.declared.Triple.{Triple}
 use Rattle.triples.specs.declared.striding.Stride.{Stride}
@@ -21,8 +21,8 @@ at-start {t} {s} down1 down2 sound size zero first second fall twice =
       sound = sound;
       size = size;
       address = zero ∙ sym (zero-mod (t .k)) ∙ ap (λ (n : ℕ). n % t .k) (omega arith);
-      fall = cong-eq {y = s .fall + t .f2 + t .f1} (omega arith) ⨾ cong-add fall (cong-eq {x = t .f1} refl) ⨾ first;
-      twice = cong-cancel down2 (cong-eq {y = s .twice + down2} (omega arith) ⨾ twice ⨾ cong-eq {y = 0 + t .f2} (omega arith) ⨾ cong-add (cong-sym second) (cong-eq {x = t .f2} refl) ⨾ cong-eq (omega arith));
+      fall = record { l = fall .l + first .l; r = fall .r + first .r; eq = omega (arith, fall .eq, first .eq) };
+      twice = record { l = twice .l + second .r; r = twice .r + second .l; eq = omega (arith, twice .eq, second .eq) };
     }
 
 pub at-next : {s r : Stride} → Sound r → r .k ≡ s .k → Cong (s .k) (r .address + s .fall) (s .address) → Cong (s .k) (r .fall + s .twice) (s .fall)
@@ -33,17 +33,14 @@ at-next {s} {r} sound size address fall twice = record { sound = sound; goes = g
     goes t x at =
         let down = subst (λ (k : ℕ). Cong k (r .address + s .fall) (s .address)) (at .size) address in
         let further = subst (λ (k : ℕ). Cong k (r .fall + s .twice) (s .fall)) (at .size) fall in
+        let here : Cong (t .k) (s .address) (t .f1 * x + t .f2 * (x * x)) = cong-eq (at .address) ⨾ cong-sym (cong-mod (t .k) (t .f1 * x + t .f2 * (x * x))) in
+        let risen : Cong (t .k) (r .address) (s .address + gain t x) =
+        record { l = down .l + at .fall .r; r = down .r + at .fall .l; eq = omega (arith, down .eq, at .fall .eq) } in
         record {
           sound = sound;
           size = size ∙ at .size;
-          address =
-              sym (mod-eq-of-lt (omega (arith, sound .address, size, at .size)))
-              ∙ cong-same
-              (cong-eq {y = r .address + 0} (omega arith) ⨾ cong-add (cong-eq {x = r .address} refl) (cong-sym (at .fall)) ⨾ cong-eq {y = r .address + s .fall + gain t x} (omega arith)
-              ⨾ cong-add (down ⨾ cong-eq (at .address) ⨾ cong-sym (cong-mod (t .k) (t .f1 * x + t .f2 * (x * x)))) (cong-eq {x = gain t x} refl) ⨾ cong-eq (omega arith));
-          fall =
-              cong-eq {y = r .fall + (t .f2 + t .f2) + gain t x} (omega arith)
-              ⨾ cong-add (cong-add (cong-eq {x = r .fall} refl) (cong-sym (at .twice)) ⨾ further) (cong-eq {x = gain t x} refl) ⨾ at .fall;
+          address = sym (mod-eq-of-lt (omega (arith, sound .address, size, at .size))) ∙ cong-same (risen ⨾ cong-add here (cong-eq {x = gain t x} refl) ⨾ cong-eq (omega arith));
+          fall = record { l = further .l + at .twice .r + at .fall .l; r = further .r + at .twice .l + at .fall .r; eq = omega (arith, further .eq, at .twice .eq, at .fall .eq) };
           twice = cong-eq twice ⨾ at .twice;
         }
 

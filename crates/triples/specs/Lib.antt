@@ -1,2 +1,3 @@
+-- To be believed: `Shuffles`. `Strides` serves inside.
 pub mod Shuffles
 pub mod Strides
