@@ -169,3 +169,8 @@ module _ {A : Type 0} {d : A} {π : ℕ → ℕ} where
 
   pub deinterleaved-count : {n : ℕ} {a b : List A} → Permutation n π → length a ≡ n → Deinterleaved d π a b → (p : A → Bool) → count p b ≡ count p a
   deinterleaved-count perm l m p = sym (interleaved-count perm (m .size ∙ l) (backwards m) p)
+
+-- no map takes n positions to fewer, and each to another
+pub no-room : (n m : ℕ) (π : ℕ → ℕ) → m < n → ((i : ℕ) → i < n → π i < m) → ((i j : ℕ) → i < n → j < n → π i ≡ π j → i ≡ j) → ⊥
+no-room n m π less within apart =
+    let (i, l, e) = onto (record { within = λ i l. omega (arith, within i l); apart = apart }) m less in omega (arith, within i l)

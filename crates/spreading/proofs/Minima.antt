@@ -1,42 +1,42 @@
--- The least distance of the pairs of a list at places d apart, one pair after the other.
-use mathlib.Core.Path.{_≡_, ap, _∙_}
-use mathlib.Core.Logic.{_⊎_, inl, inr}
-use mathlib.Core.List.{List}
-use Prim.Native.Nat.{ℕ, _+_, _≤_, _<_}
-use native.Mathlib.Decide.{ℕ-discrete}
+-- The least of many numbers, one after the other, or of two parts.
+use mathlib.Core.Path.{_≡_, refl, sym, ap, subst, _∙_}
+use mathlib.Core.Logic.{_⊎_, inl, inr, by-cases}
+use Prim.Native.Nat.{ℕ, _+_, _-_, _≤_, _<_, min}
+use native.Mathlib.Decide.{decLt}
 use native.Mathlib.Omega.{arith}
-use lib.ListN.{length, getD}
-use Rattle.spreading.specs.Spreads.{distance}
-use Rattle.spreading.specs.Minima.{Lesser, gap, Closest}
+use Rattle.spreading.specs.Minima.{Least}
 
--- r is the least gap of the pairs below x
-pub record Least (list : List ℕ) (d x r : ℕ) : Type 0 where
-  pub below : (y : ℕ) → y < x → r ≤ gap list d y
-  pub at : ℕ
-  pub earlier : at < x
-  pub met : r ≡ gap list d at
+pub least-none : (value : ℕ → ℕ) (start : ℕ) → Least value 0 start start
+least-none value start = record { first = omega arith; below = λ x l. absurd (omega arith); met = inl refl }
 
-pub least-start : (list : List ℕ) (d r : ℕ) → r ≡ distance (getD list 0 0) (getD list d 0) → Least list d 1 r
-least-start list d r e =
-    record { below = λ y l. omega (arith, met, ap (gap list d) (zero-below y l)); at = 0; earlier = omega arith; met = met }
+-- the values of w are those of u below a, and then those of v
+pub least-join : {u v : ℕ → ℕ} {a b start p r : ℕ} (w : ℕ → ℕ) → Least u a start p → Least v b p r
+    → ((x : ℕ) → x < a → w x ≡ u x) → ((x : ℕ) → x < b → w (a + x) ≡ v x) → Least w (a + b) start r
+least-join {u} {v} {a} {b} {start} {p} {r} w l m here there =
+    record { first = omega (arith, l .first, m .first); below = λ x h. below x h (decLt x a); met = met (l .met) (m .met) }
   where
-    met : r ≡ gap list d 0
-    met = e ∙ ap (λ (n : ℕ). distance (getD list 0 0) (getD list n 0)) (omega arith)
+    below : (x : ℕ) → x < a + b → Dec (x < a) → r ≤ w x
+    below x h (yes z) = omega (arith, m .first, l .below x z, here x z)
+    below x h (no z) =
+        let e : a + (x - a) ≡ x = omega arith in
+        subst (λ (n : ℕ). r ≤ w n) e (omega (arith, m .below (x - a) (omega arith), there (x - a) (omega arith)))
 
-    zero-below : (y : ℕ) → y < 1 → y ≡ 0
-    zero-below y l = omega arith
+    met : (p ≡ start) ⊎ ((x : ℕ) × (x < a) × (p ≡ u x)) → (r ≡ p) ⊎ ((x : ℕ) × (x < b) × (r ≡ v x)) → (r ≡ start) ⊎ ((x : ℕ) × (x < a + b) × (r ≡ w x))
+    met _ (inr (x, h, e)) = inr (a + x, omega arith, e ∙ sym (there x h))
+    met (inl e) (inl e′) = inl (e′ ∙ e)
+    met (inr (x, h, e)) (inl e′) = inr (x, omega arith, e′ ∙ e ∙ sym (here x h))
 
-pub least-step : {list : List ℕ} {d x r : ℕ} {here r′ : ℕ} → Least list d x r → here ≡ gap list d x → Lesser r here r′ → Least list d (x + 1) r′
-least-step {list} {d} {x} {r} {here} {r′} s e l = pick (l .one)
+-- one value more
+pub least-more : {value : ℕ → ℕ} {n start r here r′ : ℕ} → Least value n start r → here ≡ value n → r′ ≡ min r here → Least value (n + 1) start r′
+least-more {value} {n} {start} {r} {here} {r′} l e e′ = least-join value l one (λ x h. refl) (λ x h. ap value (omega arith))
   where
-    below : (y : ℕ) → y < x + 1 → Dec (y ≡ x) → r′ ≤ gap list d y
-    below y h (yes w) = omega (arith, l .second, ap (gap list d) w)
-    below y h (no w) = omega (arith, l .first, s .below y (omega arith))
+    one : Least (λ _. value n) 1 r r′
+    one =
+        record {
+          first = omega arith;
+          below = λ x h. omega arith;
+          met = by-cases (decLt r here) (λ h. inl (omega arith)) (λ h. inr (0, omega arith, omega arith));
+        }
 
-    pick : (r′ ≡ r) ⊎ (r′ ≡ here) → Least list d (x + 1) r′
-    pick (inl w) = record { below = λ y h. below y h (ℕ-discrete y x); at = s .at; earlier = omega (arith, s .earlier); met = w ∙ s .met }
-    pick (inr w) = record { below = λ y h. below y h (ℕ-discrete y x); at = x; earlier = omega arith; met = w ∙ e }
-
-pub least-end : {list : List ℕ} {d x r : ℕ} → Least list d x r → x + d ≡ length list → Closest list d r
-least-end {list} {d} {x} s e =
-    record { below = λ y h. s .below y (omega arith); at = s .at; within = omega (arith, s .earlier); met = s .met }
+pub least-all : {value : ℕ → ℕ} {i n start r : ℕ} → Least value i start r → i ≡ n → Least value n start r
+least-all {value} {start = start} {r = r} l e = subst (λ (m : ℕ). Least value m start r) e l

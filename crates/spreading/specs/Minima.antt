@@ -1,24 +1,30 @@
--- Serves inside: the lesser of two numbers, and the least distance of the pairs of a list.
+-- Serves inside: the least of many distances.
 use mathlib.Core.Path.{_≡_}
 use mathlib.Core.Logic.{_⊎_}
 use mathlib.Core.List.{List}
-use Prim.Native.Nat.{ℕ, _+_, _≤_, _<_}
+use Prim.Native.Nat.{ℕ, _+_, _%_, _≤_, _<_}
 use lib.ListN.{length, getD}
-use Rattle.spreading.specs.Spreads.{distance}
+use Rattle.spreading.specs.Spreads.{circular}
 
--- r is the lesser of a and b.
-pub record Lesser (a b r : ℕ) : Type 0 where
-  pub first : r ≤ a
-  pub second : r ≤ b
-  pub one : (r ≡ a) ⊎ (r ≡ b)
+-- r is the least of a number and the values of a map below n.
+pub record Least (value : ℕ → ℕ) (n start r : ℕ) : Type 0 where
+  pub first : r ≤ start
+  pub below : (x : ℕ) → x < n → r ≤ value x
+  pub met : (r ≡ start) ⊎ ((x : ℕ) × (x < n) × (r ≡ value x))
 
--- The distance of the entries at x and d further on.
-abbrev pub gap : List ℕ → ℕ → ℕ → ℕ
-gap list d x = distance (getD list x 0) (getD list (x + d) 0)
+-- The distance round n of the addresses of x and of the position d further on.
+abbrev pub gap : (ℕ → ℕ) → ℕ → ℕ → ℕ → ℕ
+gap φ n d x = circular n (φ x) (φ ((x + d) % n))
 
--- r is the least distance of two addresses of a list at places d apart.
-pub record Closest (list : List ℕ) (d r : ℕ) : Type 0 where
-  pub below : (x : ℕ) → x + d < length list → r ≤ gap list d x
-  pub at : ℕ
-  pub within : at + d < length list
-  pub met : r ≡ gap list d at
+-- The entries of a list, as a map.
+abbrev pub entry : List ℕ → ℕ → ℕ
+entry list i = getD list i 0
+
+-- The distance of the entries at i places past x and past y, round the list.
+abbrev pub pair : List ℕ → ℕ → ℕ → ℕ → ℕ
+pair list x y i = circular (length list) (entry list (x + i)) (entry list (y + i))
+
+-- The list holds addresses of its own places, of which there are few enough for 16 bits.
+pub record Addresses (list : List ℕ) : Type 0 where
+  pub few : length list ≤ 8192
+  pub below : (i : ℕ) → i < length list → entry list i < length list

@@ -2,7 +2,7 @@
 use mathlib.Core.Path.{sym}
 use native.Mathlib.Omega.{arith}
 use Rattle.numbers.proofs.Lists.{written-take}
-use Rattle.spreading.proofs.Spreads.{table-spread}
+use Rattle.spreading.proofs.Spreads.{table-addresses, table-spread}
 use borrow.Author.Needs.{needs}
 use Rattle.spreading.proofs.measure.Statement.{statement}
 use Rattle.spreading.proofs.measure.Tie as tie
@@ -11,7 +11,10 @@ slice-aggregate-search : tie.Need-slice-aggregate-search
 slice-aggregate-search c = sym (written-take (c .before .before .before .fill .ensures) (omega arith))
 
 search-requires : tie.Need-search-requires
-search-requires c κs = omega (arith, written-take (c .before .before .before .fill .ensures) (omega arith))
+search-requires c κs =
+    let filled = c .before .before .before in
+    let start = filled .before .before .before .before in
+    table-addresses (start .args .t) (filled .fill .ensures) (start .pre .1) (start .pre .0)
 
 returns : tie.Need-returns
 returns c =
