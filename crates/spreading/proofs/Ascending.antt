@@ -27,66 +27,57 @@ module _ (φ : ℕ → ℕ) (n : ℕ) where
 
   -- ---- the search
 
-  -- s is spread by all pairs less than s apart; least is the least distance of all pairs at most s apart, and met
-  pub record Searching (s least : ℕ) : Type 0 where
-    pub low : 1 ≤ s
-    pub short : s < n
-    pub spread : (d x : ℕ) → 0 < d → d < s → x < n → s ≤ gap φ n d x
-    pub far : (d x : ℕ) → 0 < d → d ≤ s → x < n → least ≤ gap φ n d x
+  -- two addresses r apart at positions at most s apart
+  pub record Met (s r : ℕ) : Type 0 where
     pub at : ℕ
     pub step : ℕ
     pub within : at < n
     pub some : 0 < step
     pub near : step ≤ s
-    pub met : least ≡ gap φ n step at
+    pub met : r ≡ gap φ n step at
+
+  -- addresses at positions less than s apart are at least s apart; least is the least distance of those at most s apart
+  pub record Searching (s least : ℕ) : Type 0 where
+    pub low : 1 ≤ s
+    pub short : s < n
+    pub spread : (d x : ℕ) → 0 < d → d < s → x < n → s ≤ gap φ n d x
+    pub far : (d x : ℕ) → 0 < d → d ≤ s → x < n → least ≤ gap φ n d x
+    pub met : Met s least
 
   pub search-start : {least : ℕ} → 2 ≤ n → Least (gap φ n 1) n n least → Searching 1 least
-  search-start {least} two l = pick (l .met)
+  search-start {least} two l =
+      record {
+        low = omega arith;
+        short = omega arith;
+        spread = λ d x p q lx. absurd (omega arith);
+        far = λ d x p q lx. let e : 1 ≡ d = omega arith in subst (λ (m : ℕ). least ≤ gap φ n m x) e (l .below x lx);
+        met = met (l .met);
+      }
     where
-      far : (d x : ℕ) → 0 < d → d ≤ 1 → x < n → least ≤ gap φ n d x
-      far d x p h lx = let e : 1 ≡ d = omega arith in subst (λ (m : ℕ). least ≤ gap φ n m x) e (l .below x lx)
-
-      pick : (least ≡ n) ⊎ ((x : ℕ) × (x < n) × (least ≡ gap φ n 1 x)) → Searching 1 least
-      pick (inl e) = absurd (omega (arith, l .below 0 (omega arith), half-round n (φ 0) (φ ((0 + 1) % n))))
-      pick (inr (x, h, e)) =
-          record {
-            low = omega arith;
-            short = omega arith;
-            spread = λ d y p q ly. absurd (omega arith);
-            far = far;
-            at = x;
-            step = 1;
-            within = h;
-            some = omega arith;
-            near = omega arith;
-            met = e;
-          }
+      met : (least ≡ n) ⊎ ((x : ℕ) × (x < n) × (least ≡ gap φ n 1 x)) → Met 1 least
+      met (inl e) = absurd (omega (arith, l .below 0 (omega arith), half-round n (φ 0) (φ ((0 + 1) % n))))
+      met (inr (x, lx, e)) = record { at = x; step = 1; within = lx; some = omega arith; near = omega arith; met = e }
 
   pub search-step : {s least least′ : ℕ} → Searching s least → s < least → Least (gap φ n (s + 1)) n least least′ → Searching (s + 1) least′
-  search-step {s} {least} {least′} g h l = pick (l .met)
+  search-step {s} {least} {least′} g h l =
+      record {
+        low = omega arith;
+        short = omega (arith, w .met, half-round n (φ (w .at)) (φ ((w .at + w .step) % n)));
+        spread = λ d x p q lx. omega (arith, g .far d x p (omega arith) lx);
+        far = λ d x p q lx. far d x p q lx (ℕ-discrete d (s + 1));
+        met = met (l .met);
+      }
     where
+      w : Met s least
+      w = g .met
+
       far : (d x : ℕ) → 0 < d → d ≤ s + 1 → x < n → Dec (d ≡ s + 1) → least′ ≤ gap φ n d x
-      far d x p m lx (yes e) = subst (λ (j : ℕ). least′ ≤ gap φ n j x) (sym e) (l .below x lx)
-      far d x p m lx (no e) = omega (arith, l .first, g .far d x p (omega arith) lx)
+      far d x p q lx (yes e) = subst (λ (m : ℕ). least′ ≤ gap φ n m x) (sym e) (l .below x lx)
+      far d x p q lx (no e) = omega (arith, l .first, g .far d x p (omega arith) lx)
 
-      go : (at step : ℕ) → at < n → 0 < step → step ≤ s + 1 → least′ ≡ gap φ n step at → Searching (s + 1) least′
-      go at step within some near met =
-          record {
-            low = omega arith;
-            short = omega (arith, g .met, half-round n (φ (g .at)) (φ ((g .at + g .step) % n)));
-            spread = λ d x p q lx. omega (arith, g .far d x p (omega arith) lx);
-            far = λ d x p m lx. far d x p m lx (ℕ-discrete d (s + 1));
-            at = at;
-            step = step;
-            within = within;
-            some = some;
-            near = near;
-            met = met;
-          }
-
-      pick : (least′ ≡ least) ⊎ ((x : ℕ) × (x < n) × (least′ ≡ gap φ n (s + 1) x)) → Searching (s + 1) least′
-      pick (inl e) = go (g .at) (g .step) (g .within) (g .some) (omega (arith, g .near)) (e ∙ g .met)
-      pick (inr (x, lx, e)) = go x (s + 1) lx (omega arith) (omega arith) e
+      met : (least′ ≡ least) ⊎ ((x : ℕ) × (x < n) × (least′ ≡ gap φ n (s + 1) x)) → Met (s + 1) least′
+      met (inl e) = record { at = w .at; step = w .step; within = w .within; some = w .some; near = omega (arith, w .near); met = e ∙ w .met }
+      met (inr (x, lx, e)) = record { at = x; step = s + 1; within = lx; some = omega arith; near = omega arith; met = e }
 
   -- the first distance that settles it
   pub search-end : {s least : ℕ} → Searching s least → least ≤ s → Spread φ n s
@@ -107,6 +98,8 @@ module _ (φ : ℕ → ℕ) (n : ℕ) where
 
       larger : (r : ℕ) → s < r → Spreads (circular n) φ n r → ⊥
       larger r l spreads =
-          let (close, ne) = further-on n (g .at) (g .step) (g .within) (g .some) (lt-of-le-of-lt (g .near) (g .short)) in
-          let near : circular n (g .at) ((g .at + g .step) % n) < r = lt-of-le-of-lt (le-trans close (g .near)) l in
-          omega (arith, g .met, spreads (g .at) ((g .at + g .step) % n) (g .within) (mod-lt (g .at + g .step) (omega (arith, g .within))) ne near)
+          let w = g .met in
+          let y = (w .at + w .step) % n in
+          let (close, ne) = further-on n (w .at) (w .step) (w .within) (w .some) (lt-of-le-of-lt (w .near) (g .short)) in
+          let near : circular n (w .at) y < r = lt-of-le-of-lt (le-trans close (w .near)) l in
+          omega (arith, w .met, spreads (w .at) y (w .within) (mod-lt (w .at + w .step) (omega (arith, w .within))) ne near)
