@@ -97,8 +97,8 @@ struct qpp_value qpp_address(uint32_t k, uint32_t f1, uint32_t f2, uint32_t x);
 struct qpp_value qpp_reciprocal(uint32_t k, uint32_t f1, uint32_t f2);
 
 /*
- * The largest s from 1 to K such that any two different positions less than s apart have addresses at least s apart.
- * Refusals 1, 2, 3.
+ * The largest s from 1 to K such that any two different positions less than s apart have addresses at least s apart,
+ * both distances measured the shorter way round: position K-1 stands next to position 0. Refusals 1, 2, 3.
  */
 struct qpp_value qpp_spread(uint32_t k, uint32_t f1, uint32_t f2);
 
