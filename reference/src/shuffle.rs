@@ -123,15 +123,30 @@ fn check_arp(t: Triple, form: &Arp) {
     }
 }
 
-/// The spread of an accepted triple: s is tried from K downwards against the least address distance
-/// of all pairs of positions d apart, for each d below s.
-pub fn spread(t: Triple) -> u32 {
-    let values = t.values();
-    let k = values.len();
-    let least = |d: usize| (0..k - d).map(|i| values[i + d].abs_diff(values[i])).min().unwrap();
-    let nearest: Vec<u32> = (0..k).map(least).collect();
+/// The shorter way round modulo K.
+pub fn circular(k: u32) -> impl Fn(u32, u32) -> u32 {
+    move |a, b| a.abs_diff(b).min(k - a.abs_diff(b))
+}
+
+/// The spread of any list of addresses: s is tried from K downwards against the least distance of two addresses
+/// whose positions are d apart, for each d below s. The distance of two positions depends on the steps between
+/// them alone.
+pub fn spread_by(values: &[u32], distance: impl Fn(u32, u32) -> u32) -> u32 {
+    let k = values.len() as u32;
+    // K stays where no two positions are d apart: no s is above it.
+    let mut nearest = vec![k; values.len()];
+    for steps in 1..k {
+        let pairs = values.iter().zip(&values[steps as usize..]);
+        let least = &mut nearest[distance(0, steps) as usize];
+        *least = pairs.map(|(&a, &b)| distance(a, b)).fold(*least, u32::min);
+    }
     let holds = |s: &u32| (1..*s).all(|d| nearest[d as usize] >= *s);
-    (1..=t.k).rev().find(holds).unwrap()
+    (1..=k).rev().find(holds).unwrap()
+}
+
+/// The spread of an accepted triple, with positions and addresses round the circle.
+pub fn spread(t: Triple) -> u32 {
+    spread_by(&t.values(), circular(t.k))
 }
 
 #[derive(Clone, Copy, Debug, PartialEq, Eq)]
