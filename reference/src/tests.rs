@@ -1,4 +1,5 @@
-//! Worked cases, and the inverse against all polynomials where they can be listed.
+//! Worked cases; the spread on all orders of a few positions; the inverse against all polynomials where they can be
+//! listed.
 
 use crate::coding::{code, encode, row};
 use crate::explaining::{explain, Reason};
@@ -117,6 +118,84 @@ fn inverse_cases() {
 fn arp_case() {
     let form = arp(t(8, 1, 4));
     assert_eq!((form.p, form.q, form.shifts), (1, 2, vec![0, 4]));
+}
+
+/// From the definition, s by s and pair by pair, where positions and addresses need not share their distance.
+fn largest(values: &[u32], positions: impl Fn(u32, u32) -> u32, addresses: impl Fn(u32, u32) -> u32) -> u32 {
+    let k = values.len() as u32;
+    let address = |x: u32| values[x as usize];
+    let serves = |s: u32, x: u32, y: u32| positions(x, y) >= s || addresses(address(x), address(y)) >= s;
+    (1..=k).rev().find(|&s| (0..k).all(|x| (0..x).all(|y| serves(s, x, y)))).unwrap()
+}
+
+fn cubic(k: u32, [f1, f2, f3]: [u32; 3]) -> Vec<u32> {
+    (0..k).map(|x| (f1 * x + f2 * x * x + f3 * x * x * x) % k).collect()
+}
+
+#[test]
+fn ways_round() {
+    assert_eq!([0, 1, 2, 3, 4, 5].map(|b| circular(6)(b, 0)), [0, 1, 2, 3, 2, 1]);
+    assert_eq!([0, 1, 2, 3, 4].map(|b| circular(5)(1, b)), [1, 0, 1, 2, 2]);
+}
+
+/// No quadratics, by hand: the spread round the circle; along the line; with the positions alone along the line,
+/// so that no pair is across the end; and with the addresses alone along the line.
+#[test]
+fn spread_cases() {
+    let cases = [
+        (vec![0, 2, 4, 1, 3, 5], [1, 2, 2, 2]), // 0 and 5 at the ends
+        (vec![0, 3, 5, 2, 4, 1], [1, 2, 2, 1]), // 0 and 1 at the ends
+        (vec![0, 5, 2, 4, 1, 3], [1, 2, 1, 2]), // 0 and 5 next to each other
+        (vec![0, 3, 6, 9, 1, 4, 7, 10, 2, 5, 11, 8], [2, 3, 3, 3]), // 11 and 0 two apart, across the end
+        (cubic(11, [0, 0, 10]), [1, 2, 1, 1]),  // 0, 10 at the start and 1 at the end
+        (cubic(17, [3, 6, 4]), [1, 2, 2, 2]),   // 0 and 16 at the ends
+    ];
+    for (values, [round, along, no_pair_across, no_address_across]) in cases {
+        let (circle, line) = (circular(values.len() as u32), u32::abs_diff);
+        assert_eq!(largest(&values, line, &circle), no_pair_across);
+        assert_eq!(largest(&values, &circle, line), no_address_across);
+        assert_eq!(spread_by(&values, line), along);
+        assert_eq!(spread_by(&values, circle), round);
+    }
+}
+
+/// Every order of 0 to k-1: the last is put at each place of every order of the others.
+fn orders(k: u32) -> Vec<Vec<u32>> {
+    (0..k).fold(vec![Vec::new()], |orders, last| {
+        let longer = |order: &Vec<u32>| {
+            let order = order.clone();
+            (0..=order.len()).map(move |place| [&order[..place], &[last], &order[place..]].concat())
+        };
+        orders.iter().flat_map(longer).collect()
+    })
+}
+
+/// Up to 3 positions two neighbours stand side by side whatever the order, so that every spread is 1. From 4 on there
+/// is an order in which only 0 and the last address do, which are none along the line: 1, 3, 0, 2.
+#[test]
+fn never_above_the_line() {
+    for k in 2..=8 {
+        let mut below = 0;
+        for values in orders(k) {
+            let round = largest(&values, circular(k), circular(k));
+            let along = largest(&values, u32::abs_diff, u32::abs_diff);
+            assert_eq!(spread_by(&values, circular(k)), round);
+            assert_eq!(spread_by(&values, u32::abs_diff), along);
+            assert!(round <= along);
+            below += (round < along) as u32;
+        }
+        assert_eq!(below > 0, k >= 4);
+    }
+}
+
+/// Of quadratics only a refused one has two spreads: 0, 3, 0, 3, where 0 and 3 are neighbours round the circle.
+#[test]
+fn quadratics_as_along_the_line() {
+    for triple in ask_input::all_triples(2..=64).into_iter().filter(|t| t.acceptance() == DONE) {
+        assert_eq!(spread(triple), spread_by(&triple.values(), u32::abs_diff));
+    }
+    let refused = t(4, 0, 3);
+    assert_eq!((spread(refused), spread_by(&refused.values(), u32::abs_diff)), (1, 2));
 }
 
 #[test]
