@@ -172,6 +172,24 @@ static void values(void) {
     CHECK(qpp_spread(8, 1, 4).value == 2);
 }
 
+/* A shuffle has the same spread along the line. These lists are no quadratics, and along the line each has one more. */
+static void model_spreads(void) {
+    static const struct {
+        uint32_t k, spread;
+        uint16_t addresses[17];
+    } cases[] = {
+        {6, 1, {0, 3, 5, 2, 4, 1}},                                          /* 0 and 1 at the ends */
+        {6, 1, {0, 5, 2, 4, 1, 3}},                                          /* 0 and 5 side by side */
+        {12, 2, {0, 3, 6, 9, 1, 4, 7, 10, 2, 5, 11, 8}},                     /* 11 and 0 two apart, across the end */
+        {11, 1, {0, 10, 3, 6, 2, 7, 4, 9, 5, 8, 1}},                         /* 10*x*x*x mod 11 */
+        {17, 1, {0, 13, 11, 1, 7, 2, 10, 4, 8, 12, 6, 14, 9, 15, 5, 3, 16}}, /* (3*x + 6*x*x + 4*x*x*x) mod 17 */
+    };
+    for (size_t i = 0; i < sizeof cases / sizeof *cases; i++) {
+        struct triple t = {cases[i].k, 0, 0};
+        CHECK(model_spread_of(cases[i].addresses, t.k) == cases[i].spread);
+    }
+}
+
 static void address_at(struct triple t, uint32_t x) {
     struct qpp_value r = qpp_address(t.k, t.f1, t.f2, x), model = model_address(t, x);
     CHECK(r.number == model.number && r.value == model.value);
@@ -343,6 +361,7 @@ void test_calls(void) {
     inverses();
     printed_inverse();
     values();
+    model_spreads();
     counters();
     lists();
     walkers();

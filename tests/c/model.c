@@ -101,23 +101,34 @@ struct qpp_value model_reciprocal(struct triple t) {
     return r;
 }
 
-static uint32_t distance(uint32_t a, uint32_t b) { return a < b ? b - a : a - b; }
+/* The shorter way round modulo k. */
+static uint32_t distance(uint32_t k, uint32_t a, uint32_t b) {
+    uint32_t along = a < b ? b - a : a - b;
+    return along < k - along ? along : k - along;
+}
 
-/* May s be the spread? Any two positions less than s apart have addresses at least s apart. */
-static bool spreads(struct triple t, uint32_t s) {
-    for (uint32_t x = 0; x < t.k; x++)
-        for (uint32_t y = x + 1; y < t.k && y - x < s; y++)
-            if (distance(model_f(t, x), model_f(t, y)) < s)
+/* May s be the spread? Any two positions less than s apart, across the end too, have addresses at least s apart. */
+static bool spreads(const uint16_t *addresses, uint32_t k, uint32_t s) {
+    for (uint32_t x = 0; x < k; x++)
+        for (uint32_t d = 1; d < s; d++)
+            if (distance(k, addresses[x], addresses[(x + d) % k]) < s)
                 return false;
     return true;
 }
 
 /* What spreads by s spreads by less, so that the first s that fails ends the search. */
+uint32_t model_spread_of(const uint16_t *addresses, uint32_t k) {
+    uint32_t s = 1;
+    while (s < k && spreads(addresses, k, s + 1))
+        s++;
+    return s;
+}
+
 struct qpp_value model_spread(struct triple t) {
-    struct qpp_value r = {model_accept(t), 0};
+    static uint16_t addresses[LONGEST];
+    struct qpp_value r = {model_addresses(t, addresses, LONGEST), 0};
     if (r.number == 0)
-        for (r.value = 1; r.value < t.k && spreads(t, r.value + 1);)
-            r.value++;
+        r.value = model_spread_of(addresses, t.k);
     return r;
 }
 

@@ -26,7 +26,8 @@ uint32_t model_accept(struct triple t);
 struct qpp_reason model_explain(struct triple t);
 struct qpp_value model_address(struct triple t, uint32_t x);
 struct qpp_value model_reciprocal(struct triple t);
-struct qpp_value model_spread(struct triple t); /* slow: K times the square of the spread */
+uint32_t model_spread_of(const uint16_t *addresses, uint32_t k); /* slow: k times the square of the spread */
+struct qpp_value model_spread(struct triple t);                  /* the same of a shuffle */
 struct qpp_arp model_arp(struct triple t, uint16_t *list, size_t n);
 struct qpp_start model_start(struct triple t);
 struct qpp_step model_step(struct qpp_walker w);
