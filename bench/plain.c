@@ -193,25 +193,32 @@ struct qpp_arp plain_arp(uint32_t k, uint32_t f1, uint32_t f2, uint16_t *list, s
     return (struct qpp_arp){QPP_DONE, odd.f1, q};
 }
 
-/* The addresses listed; then the least distance at each step apart, from 1 up, until one settles it. */
+/*
+ * The addresses listed; then the least distance at each step apart, from 1 up, until one settles it. For each step the
+ * list goes on from its start by one, so that a single loop has the pairs across the end too; no step is above half of
+ * K. Round the circle two addresses are closest where they are closest along the line, or farthest. 16 bits with a
+ * sign, since of these alone x86-64 takes the lesser and the greater in vectors.
+ */
 struct qpp_value plain_spread(uint32_t k, uint32_t f1, uint32_t f2) {
-    uint16_t list[8192];
+    uint16_t list[8192 + 4096];
     uint32_t number = judge(k, f1, f2);
     if (number != QPP_DONE)
         return (struct qpp_value){number, 0};
     fill(k, f1, f2, list, k);
-    uint16_t s = 1, least = (uint16_t)k;
-    for (; s < least; s++) {
-        uint16_t near = UINT16_MAX;
-        for (uint32_t x = 0; x < k - s; x++) {
-            uint16_t a = list[x], b = list[x + s];
-            uint16_t apart = (uint16_t)(a < b ? b - a : a - b);
-            near = apart < near ? apart : near;
+    uint16_t s = 0;
+    int16_t least = (int16_t)k, greatest = 0;
+    do {
+        list[k + s] = list[s];
+        s++;
+        const uint16_t *later = list + s;
+        for (size_t x = 0; x < k; x++) {
+            int16_t a = (int16_t)list[x], b = (int16_t)later[x];
+            int16_t high = a > b ? a : b, low = a > b ? b : a;
+            int16_t apart = (int16_t)(high - low);
+            least = apart < least ? apart : least;
+            greatest = apart > greatest ? apart : greatest;
         }
-        if (near <= s)
-            break;
-        least = near < least ? near : least;
-    }
+    } while (s < least && s < k - greatest);
     return (struct qpp_value){QPP_DONE, s};
 }
 
