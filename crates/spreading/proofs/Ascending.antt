@@ -1,8 +1,8 @@
 -- The search for the spread, which goes up through the distances.
-use mathlib.Core.Path.{_≡_, sym, ap, ap₂, subst, _∙_}
+use mathlib.Core.Path.{_≡_, refl, sym, ap, ap₂, subst, _∙_}
 use mathlib.Core.Logic.{_⊎_, inl, inr, ⊎-elim, by-cases}
 use Prim.Native.Nat.{ℕ, _+_, _-_, _%_, _≤_, _<_}
-use native.Mathlib.Nat.{mod-lt, mod-eq-of-lt, le-trans, lt-of-le-of-lt}
+use native.Mathlib.Nat.{mod-lt, mod-eq-of-lt, le-trans, lt-of-le-of-lt, lt-of-lt-of-le}
 use native.Mathlib.Decide.{ℕ-discrete, decLt}
 use native.Mathlib.Omega.{arith}
 use Rattle.numbers.specs.Congruences.{Cong}
@@ -10,7 +10,7 @@ use Rattle.numbers.proofs.Congruences.{cong-sym, cong-mod, cong-small, _⨾_}
 use Rattle.spreading.specs.Spreads.{circular, Spreads, Spread}
 use Rattle.spreading.specs.Minima.{Least, gap}
 use Rattle.spreading.proofs.Minima.{least-join}
-use Rattle.spreading.proofs.Circles.{half-round, circular-swap, circular-some, across, further-on, ahead}
+use Rattle.spreading.proofs.Circles.{circular-swap, circular-some, across, further-on, ahead}
 
 module _ (φ : ℕ → ℕ) (n : ℕ) where
   -- ---- the pairs d apart
@@ -27,79 +27,92 @@ module _ (φ : ℕ → ℕ) (n : ℕ) where
 
   -- ---- the search
 
-  -- two addresses r apart at positions at most s apart
-  pub record Met (s r : ℕ) : Type 0 where
+  -- two addresses r apart at positions less than s apart
+  pub record Near (s r : ℕ) : Type 0 where
     pub at : ℕ
     pub step : ℕ
     pub within : at < n
     pub some : 0 < step
-    pub near : step ≤ s
+    pub less : step < s
+    pub short : step < n
     pub met : r ≡ gap φ n step at
 
-  -- addresses at positions less than s apart are at least s apart; least is the least distance of those at most s apart
+  -- addresses at positions less than s apart are at least `least` apart, which is at least s
   pub record Searching (s least : ℕ) : Type 0 where
     pub low : 1 ≤ s
-    pub short : s < n
-    pub spread : (d x : ℕ) → 0 < d → d < s → x < n → s ≤ gap φ n d x
-    pub far : (d x : ℕ) → 0 < d → d ≤ s → x < n → least ≤ gap φ n d x
-    pub met : Met s least
+    pub fits : s ≤ least
+    pub top : least ≤ n
+    pub far : (d x : ℕ) → 0 < d → d < s → x < n → least ≤ gap φ n d x
+    pub met : (least ≡ n) ⊎ Near s least
 
-  pub search-start : {least : ℕ} → 2 ≤ n → Least (gap φ n 1) n n least → Searching 1 least
-  search-start {least} two l =
+  pub search-start : 1 ≤ n → Searching 1 n
+  search-start h = record { low = omega arith; fits = h; top = omega arith; far = λ d x p l w. absurd (omega arith); met = inl refl }
+
+  here : {s least r : ℕ} → Searching s least → s < least → (x : ℕ) → x < n → r ≡ gap φ n s x → Near (s + 1) r
+  here {s} g h x lx e =
+      record { at = x; step = s; within = lx; some = g .low; less = omega arith; short = lt-of-lt-of-le h (g .top); met = e }
+
+  more : {s r r′ : ℕ} → Near s r → r′ ≡ r → Near (s + 1) r′
+  more w e = record { at = w .at; step = w .step; within = w .within; some = w .some; less = omega (arith, w .less); short = w .short; met = e ∙ w .met }
+
+  pub search-step : {s least least′ : ℕ} → Searching s least → s < least → Least (gap φ n s) n least least′ → s < least′ → Searching (s + 1) least′
+  search-step {s} {least} {least′} g t l h =
       record {
         low = omega arith;
-        short = omega arith;
-        spread = λ d x p q lx. absurd (omega arith);
-        far = λ d x p q lx. let e : 1 ≡ d = omega arith in subst (λ (m : ℕ). least ≤ gap φ n m x) e (l .below x lx);
-        met = met (l .met);
+        fits = omega arith;
+        top = omega (arith, l .first, g .top);
+        far = λ d x p q lx. far d x p q lx (ℕ-discrete d s);
+        met = met (l .met) (g .met);
       }
     where
-      met : (least ≡ n) ⊎ ((x : ℕ) × (x < n) × (least ≡ gap φ n 1 x)) → Met 1 least
-      met (inl e) = absurd (omega (arith, l .below 0 (omega arith), half-round n (φ 0) (φ ((0 + 1) % n))))
-      met (inr (x, lx, e)) = record { at = x; step = 1; within = lx; some = omega arith; near = omega arith; met = e }
-
-  pub search-step : {s least least′ : ℕ} → Searching s least → s < least → Least (gap φ n (s + 1)) n least least′ → Searching (s + 1) least′
-  search-step {s} {least} {least′} g h l =
-      record {
-        low = omega arith;
-        short = omega (arith, w .met, half-round n (φ (w .at)) (φ ((w .at + w .step) % n)));
-        spread = λ d x p q lx. omega (arith, g .far d x p (omega arith) lx);
-        far = λ d x p q lx. far d x p q lx (ℕ-discrete d (s + 1));
-        met = met (l .met);
-      }
-    where
-      w : Met s least
-      w = g .met
-
-      far : (d x : ℕ) → 0 < d → d ≤ s + 1 → x < n → Dec (d ≡ s + 1) → least′ ≤ gap φ n d x
+      far : (d x : ℕ) → 0 < d → d < s + 1 → x < n → Dec (d ≡ s) → least′ ≤ gap φ n d x
       far d x p q lx (yes e) = subst (λ (m : ℕ). least′ ≤ gap φ n m x) (sym e) (l .below x lx)
       far d x p q lx (no e) = omega (arith, l .first, g .far d x p (omega arith) lx)
 
-      met : (least′ ≡ least) ⊎ ((x : ℕ) × (x < n) × (least′ ≡ gap φ n (s + 1) x)) → Met (s + 1) least′
-      met (inl e) = record { at = w .at; step = w .step; within = w .within; some = w .some; near = omega (arith, w .near); met = e ∙ w .met }
-      met (inr (x, lx, e)) = record { at = x; step = s + 1; within = lx; some = omega arith; near = omega arith; met = e }
+      met : (least′ ≡ least) ⊎ ((x : ℕ) × (x < n) × (least′ ≡ gap φ n s x)) → (least ≡ n) ⊎ Near s least → (least′ ≡ n) ⊎ Near (s + 1) least′
+      met (inr (x, lx, e)) o = inr (here g t x lx e)
+      met (inl e) (inl o) = inl (e ∙ o)
+      met (inl e) (inr w) = inr (more w e)
 
-  -- the first distance that settles it
-  pub search-end : {s least : ℕ} → Searching s least → least ≤ s → Spread φ n s
-  search-end {s} {least} g h =
+  -- two near positions leave no larger spread
+  near-largest : {s r : ℕ} → Near (s + 1) r → r ≤ s → (q : ℕ) → Spreads (circular n) φ n q → q ≤ s
+  near-largest {s} {r} w h q spreads = by-cases (decLt s q) (λ l. absurd (clash l)) (λ l. omega arith)
+    where
+      clash : s < q → ⊥
+      clash l =
+          let y = (w .at + w .step) % n in
+          let (close, ne) = further-on n (w .at) (w .step) (w .within) (w .some) (w .short) in
+          let near : circular n (w .at) y < q = lt-of-le-of-lt close (omega (arith, w .less)) in
+          omega (arith, w .met, spreads (w .at) y (w .within) (mod-lt (w .at + w .step) (omega (arith, w .within))) ne near)
+
+  found : {s least : ℕ} → Searching s least → ((q : ℕ) → q ≤ n → Spreads (circular n) φ n q → q ≤ s) → Spread φ n s
+  found {s} g largest =
       record {
         low = g .low;
-        high = omega (arith, g .short);
+        high = omega (arith, g .fits, g .top);
         spreads =
             λ x y lx ly ne near. ⊎-elim (λ c. onward x y (circular n x y) lx ly (circular-some n x y lx ly ne) near c)
             (λ c. subst (λ (m : ℕ). s ≤ m) (circular-swap n (φ y) (φ x)) (onward y x (circular n x y) ly lx (circular-some n x y lx ly ne) near c)) (ahead n x y lx ly);
-        largest = λ r _ spreads. by-cases (decLt s r) (λ l. absurd (larger r l spreads)) (λ l. omega arith);
+        largest = largest;
       }
     where
       onward : (x y d : ℕ) → x < n → y < n → 0 < d → d < s → Cong n y (x + d) → s ≤ circular n (φ x) (φ y)
       onward x y d lx ly some near c =
           let e : (x + d) % n ≡ y = cong-small (cong-sym (cong-mod n (x + d)) ⨾ cong-sym c) (mod-lt (x + d) (omega arith)) ly in
-          subst (λ (j : ℕ). s ≤ circular n (φ x) (φ j)) e (g .spread d x some near lx)
+          subst (λ (j : ℕ). s ≤ circular n (φ x) (φ j)) e (le-trans (g .fits) (g .far d x some near lx))
 
-      larger : (r : ℕ) → s < r → Spreads (circular n) φ n r → ⊥
-      larger r l spreads =
-          let w = g .met in
-          let y = (w .at + w .step) % n in
-          let (close, ne) = further-on n (w .at) (w .step) (w .within) (w .some) (lt-of-le-of-lt (w .near) (g .short)) in
-          let near : circular n (w .at) y < r = lt-of-le-of-lt (le-trans close (w .near)) l in
-          omega (arith, w .met, spreads (w .at) y (w .within) (mod-lt (w .at + w .step) (omega (arith, w .within))) ne near)
+  -- two positions s apart have addresses at most s apart
+  pub search-near : {s least least′ : ℕ} → Searching s least → s < least → Least (gap φ n s) n least least′ → least′ ≤ s → Spread φ n s
+  search-near {s} {least} {least′} g t l h = found g (λ q _. largest (l .met) q)
+    where
+      largest : (least′ ≡ least) ⊎ ((x : ℕ) × (x < n) × (least′ ≡ gap φ n s x)) → (q : ℕ) → Spreads (circular n) φ n q → q ≤ s
+      largest (inl e) = absurd (omega arith)
+      largest (inr (x, lx, e)) = near-largest (here g t x lx e) h
+
+  -- the least distance so far is met
+  pub search-met : {s least : ℕ} → Searching s least → least ≤ s → Spread φ n s
+  search-met {s} {least} g h = found g (largest (g .met))
+    where
+      largest : (least ≡ n) ⊎ Near s least → (q : ℕ) → q ≤ n → Spreads (circular n) φ n q → q ≤ s
+      largest (inl e) q l _ = omega arith
+      largest (inr w) q _ spreads = near-largest (more w refl) h q spreads

@@ -9,10 +9,6 @@ use Rattle.numbers.specs.Congruences.{Cong}
 use Rattle.numbers.proofs.Congruences.{cong-eq, cong-same}
 use Rattle.spreading.specs.Spreads.{circular}
 
--- no distance is more than half way round
-pub half-round : (n a b : ℕ) → 2 * circular n a b ≤ n
-half-round n a b = omega arith
-
 pub circular-swap : (n a b : ℕ) → circular n a b ≡ circular n b a
 circular-swap n a b = omega arith
 

@@ -34,7 +34,7 @@ module _ (t : Triple) {before table : List ℕ} (l : Written (f t) (t .k) before
   listed : (x : ℕ) → x < t .k → entry (take (t .k) table) x ≡ f t x
   listed x h = getD-take (t .k) table x 0 h ∙ l .entries x h
 
-  pub table-addresses : InRange t → Addresses (take (t .k) table) × (2 ≤ length (take (t .k) table))
+  pub table-addresses : InRange t → Addresses (take (t .k) table) × (1 ≤ length (take (t .k) table))
   table-addresses range =
       let e = written-take l fits in (
         record {

@@ -55,14 +55,17 @@ fn nearest(list: &[u16], d: usize, first: u16) -> u16
 
 // The spread of a list of addresses, going up from 1: it stops at the first distance that settles it.
 fn search(list: &[u16]) -> u16
-    requires { ⌜ Addresses (now list) × (2 ≤ length (now list)) ⌝ }
+    requires { ⌜ Addresses (now list) × (1 ≤ length (now list)) ⌝ }
     ensures { λ s. ⌜ Spread (entry (now (list .entry))) (length (now (list .entry))) s ⌝ }
 {
     let mut s = 1;
-    let mut least = nearest(list, 1, list.len() as u16);
+    let mut least = list.len() as u16;
     while s < least {
-        s += 1;
         least = nearest(list, s as usize, least);
+        if least <= s {
+            return s;
+        }
+        s += 1;
     }
     s
 }
