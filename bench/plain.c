@@ -205,11 +205,10 @@ struct qpp_value plain_spread(uint32_t k, uint32_t f1, uint32_t f2) {
     if (number != QPP_DONE)
         return (struct qpp_value){number, 0};
     fill(k, f1, f2, list, k);
-    uint16_t s = 0;
+    uint16_t s = 1;
     int16_t least = (int16_t)k, greatest = 0;
-    do {
-        list[k + s] = list[s];
-        s++;
+    for (; s < least && s < k - greatest; s++) {
+        list[k + s - 1] = list[s - 1];
         const uint16_t *later = list + s;
         for (size_t x = 0; x < k; x++) {
             int16_t a = (int16_t)list[x], b = (int16_t)later[x];
@@ -218,7 +217,9 @@ struct qpp_value plain_spread(uint32_t k, uint32_t f1, uint32_t f2) {
             least = apart < least ? apart : least;
             greatest = apart > greatest ? apart : greatest;
         }
-    } while (s < least && s < k - greatest);
+        if (least <= s || k - greatest <= s)
+            break;
+    }
     return (struct qpp_value){QPP_DONE, s};
 }
 

@@ -45,8 +45,8 @@ module _ (φ : ℕ → ℕ) (n : ℕ) where
     pub far : (d x : ℕ) → 0 < d → d < s → x < n → least ≤ gap φ n d x
     pub met : (least ≡ n) ⊎ Near s least
 
-  pub search-start : 1 ≤ n → Searching 1 n
-  search-start h = record { low = omega arith; fits = h; top = omega arith; far = λ d x p l w. absurd (omega arith); met = inl refl }
+  pub search-start : {least : ℕ} → 1 ≤ n → least ≡ n → Searching 1 least
+  search-start h e = record { low = omega arith; fits = omega arith; top = omega arith; far = λ d x p l w. absurd (omega arith); met = inl e }
 
   here : {s least r : ℕ} → Searching s least → s < least → (x : ℕ) → x < n → r ≡ gap φ n s x → Near (s + 1) r
   here {s} g h x lx e =

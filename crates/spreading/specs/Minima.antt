@@ -2,15 +2,25 @@
 use mathlib.Core.Path.{_≡_}
 use mathlib.Core.Logic.{_⊎_}
 use mathlib.Core.List.{List}
-use Prim.Native.Nat.{ℕ, _+_, _%_, _≤_, _<_}
+use Prim.Native.Nat.{ℕ, _+_, _-_, _%_, _≤_, _<_, min}
 use lib.ListN.{length, getD}
 use Rattle.spreading.specs.Spreads.{circular}
+use Rattle.spreading.specs.declared.Ways.{Ways}
 
 -- r is the least of a number and the values of a map below n.
 pub record Least (value : ℕ → ℕ) (n start r : ℕ) : Type 0 where
   pub first : r ≤ start
   pub below : (x : ℕ) → x < n → r ≤ value x
   pub met : (r ≡ start) ⊎ ((x : ℕ) × (x < n) × (r ≡ value x))
+
+-- The distance round n of the closest pair, where these are the least and the greatest distance along the line.
+abbrev pub shortest : ℕ → Ways → ℕ
+shortest n met = min (met .least) (n - met .most)
+
+-- The closest pair is the closest of those met before and of k more.
+pub record Meets (value : ℕ → ℕ) (k n : ℕ) (met r : Ways) : Type 0 where
+  pub least : Least value k (shortest n met) (shortest n r)
+  pub most : r .most ≤ n
 
 -- The distance round n of the addresses of x and of the position d further on.
 abbrev pub gap : (ℕ → ℕ) → ℕ → ℕ → ℕ → ℕ

@@ -1,16 +1,29 @@
 // The spread of a shuffle.
 use triples::Triple;
 ghost use mathlib.Core.Path.{_≡_};
-ghost use Prim.Native.Nat.{_+_, _≤_, _<_, min};
+ghost use Prim.Native.Nat.{_+_, _≤_, _<_, min, max};
 ghost use lib.ListN.{length};
 ghost use Rattle.triples.specs.Shuffles.{f, InRange};
-ghost use Rattle.spreading.specs.Spreads.{line, circular, Spread};
-ghost use Rattle.spreading.specs.Minima.{Least, gap, entry, pair, Addresses};
+ghost use Rattle.spreading.specs.Spreads.{line, Spread};
+ghost use Rattle.spreading.specs.Minima.{shortest, Meets, gap, entry, pair, Addresses};
+
+// The least and the greatest distance along the line that were met. Round the circle the closest are at the one or the other, and to keep both
+// takes less than to go round for each pair.
+struct Ways {
+    least: u16,
+    most: u16,
+}
 
 fn lesser(a: u16, b: u16) -> u16
     ensures { λ r. ⌜ r ≡ min a b ⌝ }
 {
     if a < b { a } else { b }
+}
+
+fn greater(a: u16, b: u16) -> u16
+    ensures { λ r. ⌜ r ≡ max a b ⌝ }
+{
+    if a < b { b } else { a }
 }
 
 fn along(a: u16, b: u16) -> u16
@@ -19,38 +32,39 @@ fn along(a: u16, b: u16) -> u16
     if a < b { b - a } else { a - b }
 }
 
-// The distance of two numbers below n, the shorter way round.
-fn apart(n: u16, a: u16, b: u16) -> u16
-    requires { ⌜ (a < n) × (b < n) ⌝ }
-    ensures { λ r. ⌜ r ≡ circular n a b ⌝ }
+// The shorter way round n of the closest that were met.
+fn shorter(n: u16, met: Ways) -> u16
+    requires { ⌜ met .most ≤ n ⌝ }
+    ensures { λ r. ⌜ r ≡ shortest n met ⌝ }
 {
-    let way = along(a, b);
-    lesser(way, n - way)
+    lesser(met.least, n - met.most)
 }
 
-// The least of a first number and the distances of so many pairs of addresses, from the places x and y on.
-fn closest(list: &[u16], x: usize, y: usize, pairs: usize, first: u16) -> u16
-    requires { ⌜ Addresses (now list) × (x + pairs ≤ length (now list)) × (y + pairs ≤ length (now list)) ⌝ }
-    ensures { λ r. ⌜ Least (pair (now (list .entry)) x y) pairs first r ⌝ }
+// Meets so many pairs of addresses more, from the places x and y on.
+fn meet_pairs(list: &[u16], x: usize, y: usize, pairs: usize, met: Ways) -> Ways
+    requires { ⌜ Addresses (now list) × (x + pairs ≤ length (now list)) × (y + pairs ≤ length (now list)) × (met .most ≤ length (now list)) ⌝ }
+    ensures { λ r. ⌜ Meets (pair (now (list .entry)) x y) pairs (length (now (list .entry))) met r ⌝ }
 {
-    let n = list.len() as u16;
-    let mut least = first;
+    let mut least = met.least;
+    let mut most = met.most;
     let mut i = 0;
     while i < pairs {
-        least = lesser(least, apart(n, list[x + i], list[y + i]));
+        let way = along(list[x + i], list[y + i]);
+        least = lesser(least, way);
+        most = greater(most, way);
         i += 1;
     }
-    least
+    Ways { least, most }
 }
 
-// The least of a first number and the distances of all addresses at positions d apart: along the line, then across the end.
-fn nearest(list: &[u16], d: usize, first: u16) -> u16
-    requires { ⌜ Addresses (now list) × (d < length (now list)) ⌝ }
-    ensures { λ r. ⌜ Least (gap (entry (now (list .entry))) (length (now (list .entry))) d) (length (now (list .entry))) first r ⌝ }
+// Meets all addresses at positions d apart: those along the line, then those across the end.
+fn meet_apart(list: &[u16], d: usize, met: Ways) -> Ways
+    requires { ⌜ Addresses (now list) × (d < length (now list)) × (met .most ≤ length (now list)) ⌝ }
+    ensures { λ r. ⌜ Meets (gap (entry (now (list .entry))) (length (now (list .entry))) d) (length (now (list .entry))) (length (now (list .entry))) met r ⌝ }
 {
     let along = list.len() - d;
-    let least = closest(list, 0, d, along, first);
-    closest(list, along, 0, d, least)
+    let met = meet_pairs(list, 0, d, along, met);
+    meet_pairs(list, along, 0, d, met)
 }
 
 // The spread of a list of addresses, going up from 1: it stops at the first distance that settles it.
@@ -58,11 +72,12 @@ fn search(list: &[u16]) -> u16
     requires { ⌜ Addresses (now list) × (1 ≤ length (now list)) ⌝ }
     ensures { λ s. ⌜ Spread (entry (now (list .entry))) (length (now (list .entry))) s ⌝ }
 {
+    let n = list.len() as u16;
+    let mut met = Ways { least: n, most: 0 };
     let mut s = 1;
-    let mut least = list.len() as u16;
-    while s < least {
-        least = nearest(list, s as usize, least);
-        if least <= s {
+    while s < shorter(n, met) {
+        met = meet_apart(list, s as usize, met);
+        if shorter(n, met) <= s {
             return s;
         }
         s += 1;
