@@ -27,7 +27,8 @@ further-on n x d lx some ld =
 
 -- one of two positions is as far on from the other as they are apart
 pub ahead : (n a b : ℕ) → a < n → b < n → Cong n b (a + circular n a b) ⊎ Cong n a (b + circular n a b)
-ahead n a b la lb = by-cases (decLt a b) (λ l. by-cases (decLt n (2 * (b - a))) (λ h. inr (over (omega arith))) (λ h. inl (cong-eq (omega arith))))
+ahead n a b la lb =
+    by-cases (decLt a b) (λ l. by-cases (decLt n (2 * (b - a))) (λ h. inr (over (omega arith))) (λ h. inl (cong-eq (omega arith))))
     (λ l. by-cases (decLt n (2 * (a - b))) (λ h. inl (over (omega arith))) (λ h. inr (cong-eq (omega arith))))
   where
     over : {x y : ℕ} → x + n ≡ y → Cong n x y

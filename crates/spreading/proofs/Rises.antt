@@ -2,7 +2,7 @@
 -- Two near positions with near addresses come again q further on, m times in all; few of these cross the end, and few of their addresses do,
 -- since a spread of s takes more than s·(s - 1) positions. So one pair crosses neither, and is near along the line.
 use mathlib.Core.Path.{_≡_, refl, sym, ap, subst, _∙_}
-use mathlib.Core.Logic.{_≢_, _⊎_, inl, inr, ⊎-elim, by-cases}
+use mathlib.Core.Logic.{_≢_, ⊎-elim, by-cases}
 use Prim.Native.Nat.{ℕ, zero, suc, _+_, _-_, _*_, _/_, _%_, _≤_, _<_}
 use native.Mathlib.Nat.{mod-lt, div-add-mod, div-lt-iff-lt-mul, mul-le-mul-right, eq-of-mul-eq-mul-right}
 use native.Mathlib.Decide.{decLt, ℕ-discrete}
