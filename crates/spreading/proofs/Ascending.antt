@@ -9,24 +9,9 @@ use Rattle.numbers.specs.Congruences.{Cong}
 use Rattle.numbers.proofs.Congruences.{cong-sym, cong-mod, cong-small, _⨾_}
 use Rattle.spreading.specs.Spreads.{circular, Spreads, Spread}
 use Rattle.spreading.specs.Minima.{Least, gap}
-use Rattle.spreading.proofs.Minima.{least-join}
-use Rattle.spreading.proofs.Circles.{circular-swap, circular-some, across, further-on, ahead}
+use Rattle.spreading.proofs.Circles.{circular-swap, circular-some, further-on, ahead}
 
 module _ (φ : ℕ → ℕ) (n : ℕ) where
-  -- ---- the pairs d apart
-
-  -- those along the line, and then those across the end
-  pub all-pairs : (d start p r : ℕ) → d < n → Least (λ i. circular n (φ (0 + i)) (φ (d + i))) (n - d) start p
-      → Least (λ i. circular n (φ (n - d + i)) (φ (0 + i))) d p r → Least (gap φ n d) n start r
-  all-pairs d start p r less along end =
-      let e : n - d + d ≡ n = omega arith in
-      subst (λ (m : ℕ). Least (gap φ n d) m start r) e
-      (least-join (gap φ n d) along end
-      (λ x h. ap₂ (λ (i j : ℕ). circular n (φ i) (φ j)) (omega arith) (mod-eq-of-lt (omega arith) ∙ omega arith))
-      (λ x h. ap (λ (j : ℕ). circular n (φ (n - d + x)) (φ j)) (across n (n - d + x) d (omega arith) (omega arith) less ∙ omega arith)))
-
-  -- ---- the search
-
   -- two addresses r apart at positions less than s apart
   pub record Near (s r : ℕ) : Type 0 where
     pub at : ℕ
@@ -85,21 +70,18 @@ module _ (φ : ℕ → ℕ) (n : ℕ) where
           let near : circular n (w .at) y < q = lt-of-le-of-lt close (omega (arith, w .less)) in
           omega (arith, w .met, spreads (w .at) y (w .within) (mod-lt (w .at + w .step) (omega (arith, w .within))) ne near)
 
-  found : {s least : ℕ} → Searching s least → ((q : ℕ) → q ≤ n → Spreads (circular n) φ n q → q ≤ s) → Spread φ n s
-  found {s} g largest =
-      record {
-        low = g .low;
-        high = omega (arith, g .fits, g .top);
-        spreads =
-            λ x y lx ly ne near. ⊎-elim (λ c. onward x y (circular n x y) lx ly (circular-some n x y lx ly ne) near c)
-            (λ c. subst (λ (m : ℕ). s ≤ m) (circular-swap n (φ y) (φ x)) (onward y x (circular n x y) ly lx (circular-some n x y lx ly ne) near c)) (ahead n x y lx ly);
-        largest = largest;
-      }
+  pub search-spreads : {s least : ℕ} → Searching s least → Spreads (circular n) φ n s
+  search-spreads {s} g x y lx ly ne near =
+      ⊎-elim (λ c. onward x y (circular n x y) lx ly (circular-some n x y lx ly ne) near c)
+      (λ c. subst (λ (m : ℕ). s ≤ m) (circular-swap n (φ y) (φ x)) (onward y x (circular n x y) ly lx (circular-some n x y lx ly ne) near c)) (ahead n x y lx ly)
     where
       onward : (x y d : ℕ) → x < n → y < n → 0 < d → d < s → Cong n y (x + d) → s ≤ circular n (φ x) (φ y)
       onward x y d lx ly some near c =
           let e : (x + d) % n ≡ y = cong-small (cong-sym (cong-mod n (x + d)) ⨾ cong-sym c) (mod-lt (x + d) (omega arith)) ly in
           subst (λ (j : ℕ). s ≤ circular n (φ x) (φ j)) e (le-trans (g .fits) (g .far d x some near lx))
+
+  found : {s least : ℕ} → Searching s least → ((q : ℕ) → q ≤ n → Spreads (circular n) φ n q → q ≤ s) → Spread φ n s
+  found g largest = record { low = g .low; high = omega (arith, g .fits, g .top); spreads = search-spreads g; largest = largest }
 
   -- two positions s apart have addresses at most s apart
   pub search-near : {s least least′ : ℕ} → Searching s least → s < least → Least (gap φ n s) n least least′ → least′ ≤ s → Spread φ n s

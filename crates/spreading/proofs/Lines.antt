@@ -14,17 +14,10 @@ use Rattle.triples.specs.declared.Triple.{Triple}
 use Rattle.triples.specs.Shuffles.{f, Shuffle, oddForm}
 use Rattle.acceptance.proofs.Rule.{OddUnit, odd-unit}
 use Rattle.spreading.specs.Spreads.{line, circular, Spreads, SpreadBy, Spread}
+use Rattle.spreading.proofs.Packing.{circular-line}
 use Rattle.spreading.proofs.Rises.{Rises, line-circular}
 
 -- ---- never above
-
--- no distance is longer round the circle
-circular-line : (φ : ℕ → ℕ) (n s : ℕ) → Spreads (circular n) φ n s → Spreads line φ n s
-circular-line φ n s h x y lx ly ne near =
-    le-trans (h x y lx ly ne (lt-of-le-of-lt (shorter x y) near)) (shorter (φ x) (φ y))
-  where
-    shorter : (a b : ℕ) → circular n a b ≤ line a b
-    shorter a b = min-le-left (line a b) (n - line a b)
 
 pub never-above-line : {φ : ℕ → ℕ} {n r s : ℕ} → Spread φ n r → SpreadBy line φ n s → r ≤ s
 never-above-line {φ} {n} {r} c l = l .largest r (c .high) (circular-line φ n r (c .spreads))

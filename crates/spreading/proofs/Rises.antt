@@ -12,26 +12,8 @@ use Rattle.numbers.proofs.Divisors.{factors-pos}
 use Rattle.numbers.proofs.Congruences.{cong-eq, cong-add, cong-cancel, cong-same, cong-small, _⨾_}
 use Rattle.permuting.proofs.Permutations.{no-room}
 use Rattle.spreading.specs.Spreads.{line, circular, Spreads}
+use Rattle.spreading.proofs.Packing.{packed}
 use Rattle.spreading.proofs.Circles.{ahead, circular-swap, circular-some}
-
--- ---- how many positions a spread takes
-
--- two numbers with the same quotient are near
-quotient-near : (s a b : ℕ) → 0 < s → a / s ≡ b / s → line a b < s
-quotient-near s a b pos e =
-    omega (arith, div-add-mod a s, div-add-mod b s, ap (λ (n : ℕ). s * n) e, mod-lt a pos, mod-lt b pos)
-
--- a spread of k + 1 takes more than k·(k + 1) positions
-packed : {φ : ℕ → ℕ} {n : ℕ} (k : ℕ) → k + 1 ≤ n → ((x : ℕ) → φ x < n) → Spreads line φ n (k + 1) → k * (k + 1) < n
-packed {φ} {n} k le below spreads =
-    by-cases (decLt (k * (k + 1)) n) (λ l. l)
-    (λ l. absurd
-    (no-room (k + 1) k (λ i. φ i / (k + 1)) (omega arith)
-    (λ i _. div-lt-iff-lt-mul {k = k + 1} {x = φ i} {y = k} (omega arith) .1 (omega (arith, below i)))
-    (λ i j li lj e. by-cases (ℕ-discrete i j) (λ same. same)
-    (λ ne. absurd (omega (arith, spreads i j (omega arith) (omega arith) ne (omega arith), quotient-near (k + 1) (φ i) (φ j) (omega arith) e))))))
-
--- ---- a map that rises alike every q positions
 
 pub record Rises (φ : ℕ → ℕ) (m q : ℕ) : Type 0 where
   pub below : (x : ℕ) → φ x < m * q
@@ -152,7 +134,7 @@ module _ {φ : ℕ → ℕ} {m q : ℕ} (g : Rises φ m q) where
         (λ h.
         let e : s ≡ s - 2 + 1 + 1 = omega arith in
         let room : (s - 2 + 1) * (s - 2 + 1 + 1) < m * q =
-        packed (s - 2 + 1) (omega arith) (g .below) (subst (λ (n : ℕ). Spreads line φ (m * q) n) e spreads) in
+        packed (s - 2 + 1) (omega arith) (λ x _. g .below x) (subst (λ (n : ℕ). Spreads line φ (m * q) n) e spreads) in
         let d = div-add-mod (s - 2) q in
         covered s ((s - 2) / q + 1) (parts .1) (omega (arith, mod-lt (s - 2) (parts .1)))
         (few (s - 2) ((s - 2) / q) room (three (omega arith)) (omega arith)) spreads)

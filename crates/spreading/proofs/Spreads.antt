@@ -11,7 +11,7 @@ use Rattle.numbers.proofs.Lists.{written-take}
 use Rattle.triples.specs.declared.Triple.{Triple}
 use Rattle.triples.specs.Shuffles.{f, InRange}
 use Rattle.spreading.specs.Spreads.{SpreadBy, Spread}
-use Rattle.spreading.specs.Minima.{entry, Addresses}
+use Rattle.spreading.specs.Minima.{entry, Addresses, Roomy}
 
 pub spread-one : {distance : ℕ → ℕ → ℕ} {φ : ℕ → ℕ} {n r s : ℕ} → SpreadBy distance φ n r → SpreadBy distance φ n s → r ≡ s
 spread-one {r = r} {s = s} a b = omega (arith, a .largest s (b .high) (b .spreads), b .largest r (a .high) (a .spreads))
@@ -28,21 +28,19 @@ spread-same {distance} {φ} {ψ} {n} {s} e a =
     same : (x y : ℕ) → x < n → y < n → distance (φ x) (φ y) ≡ distance (ψ x) (ψ y)
     same x y lx ly = ap₂ (λ (p q : ℕ). distance p q) (e x lx) (e y ly)
 
--- ---- the spread of a triple, from the front of a table that lists its addresses
+-- ---- the spread of a triple, from a table that lists its addresses
 
-module _ (t : Triple) {before table : List ℕ} (l : Written (f t) (t .k) before table) (fits : t .k ≤ length before) where
-  listed : (x : ℕ) → x < t .k → entry (take (t .k) table) x ≡ f t x
-  listed x h = getD-take (t .k) table x 0 h ∙ l .entries x h
+module _ (t : Triple) {before table : List ℕ} (l : Written (f t) (t .k) before table) where
+  pub table-addresses : InRange t → Roomy before (t .k) → Addresses table (t .k) (t .k) × Roomy table (t .k) × (1 ≤ t .k)
+  table-addresses range room = (
+    record {
+      few = range .high;
+      within = omega (arith, l .size, room .within);
+      below = λ x h. subst (λ (a : ℕ). a < t .k) (sym (l .entries x h)) (mod-lt _ (omega (arith, range .low)));
+    },
+    record { room = room .room; within = omega (arith, l .size, room .within); enough = room .enough },
+    omega (arith, range .low),
+  )
 
-  pub table-addresses : InRange t → Addresses (take (t .k) table) × (1 ≤ length (take (t .k) table))
-  table-addresses range =
-      let e = written-take l fits in (
-        record {
-          few = omega (arith, e, range .high);
-          below = λ x h. subst₂ (λ (a n : ℕ). a < n) (sym (listed x (omega (arith, e)))) (sym e) (mod-lt _ (omega (arith, range .low)));
-        },
-        omega (arith, e, range .low),
-      )
-
-  pub table-spread : {s : ℕ} → Spread (entry (take (t .k) table)) (length (take (t .k) table)) s → Spread (f t) (t .k) s
-  table-spread {s} spread = spread-same listed (subst (λ (n : ℕ). Spread (entry (take (t .k) table)) n s) (written-take l fits) spread)
+  pub table-spread : {s : ℕ} → Spread (entry table) (t .k) s → Spread (f t) (t .k) s
+  table-spread = spread-same (l .entries)
