@@ -1,23 +1,19 @@
 -- Distances round a circle of n.
 use mathlib.Core.Path.{_≡_, _∙_}
 use mathlib.Core.Logic.{_≢_, _⊎_, inl, inr, by-cases}
-use Prim.Native.Nat.{ℕ, _+_, _-_, _*_, _%_, _≤_, _<_, max}
+use Prim.Native.Nat.{ℕ, _+_, _-_, _*_, _%_, _≤_, _<_}
 use native.Mathlib.Nat.{mod-eq-of-lt}
 use native.Mathlib.Decide.{decLt}
 use native.Mathlib.Omega.{arith}
 use Rattle.numbers.specs.Congruences.{Cong}
 use Rattle.numbers.proofs.Congruences.{cong-eq, cong-same}
-use Rattle.spreading.specs.Spreads.{line, circular}
+use Rattle.spreading.specs.Spreads.{circular}
 
 pub circular-swap : (n a b : ℕ) → circular n a b ≡ circular n b a
 circular-swap n a b = omega arith
 
 pub circular-some : (n a b : ℕ) → a < n → b < n → a ≢ b → 0 < circular n a b
 circular-some n a b la lb ne = omega arith
-
--- the longer way is what the distance leaves
-pub longer : (n a b : ℕ) → a < n → b < n → max (line a b) (n - line a b) ≡ n - circular n a b
-longer n a b la lb = omega arith
 
 -- across the end
 pub across : (n x d : ℕ) → n ≤ x + d → x < n → d < n → (x + d) % n ≡ x + d - n

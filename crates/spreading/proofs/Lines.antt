@@ -2,7 +2,7 @@
 use mathlib.Core.Path.{_≡_, refl, sym, ap, subst}
 use mathlib.Core.Logic.{_↔_}
 use Prim.Native.Nat.{ℕ, _+_, _-_, _*_, _≤_, _<_, _∣_}
-use native.Mathlib.Nat.{mod-lt, min-le-left, le-trans, lt-of-le-of-lt, dvd-refl, dvd-mul-left-of-dvd, pos-of-dvd-of-pos}
+use native.Mathlib.Nat.{mod-lt, dvd-refl, dvd-mul-left-of-dvd, pos-of-dvd-of-pos}
 use native.Mathlib.Decide.{ℕ-discrete}
 use native.Mathlib.Omega.{arith}
 use Rattle.numbers.specs.Divisors.{IsGcd}

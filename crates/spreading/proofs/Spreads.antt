@@ -1,17 +1,15 @@
 -- The spread is one number, and depends on the addresses alone; the spread of a triple, from a table of its addresses.
-use mathlib.Core.Path.{_≡_, sym, ap₂, subst, subst₂, _∙_}
+use mathlib.Core.Path.{_≡_, sym, ap₂, subst, _∙_}
 use mathlib.Core.List.{List}
-use Prim.Native.Nat.{ℕ, _≤_, _<_}
-use native.Mathlib.Nat.{mod-lt}
+use Prim.Native.Nat.{ℕ, _+_, _%_, _≤_, _<_}
+use native.Mathlib.Nat.{mod-lt, div-add-mod, lt-of-lt-of-le}
 use native.Mathlib.Omega.{arith}
-use lib.ListN.{length, take}
-use lib.Seq.{getD-take}
 use Rattle.numbers.specs.Lists.{Written}
-use Rattle.numbers.proofs.Lists.{written-take}
 use Rattle.triples.specs.declared.Triple.{Triple}
+use Rattle.triples.proofs.Values.{wrap}
 use Rattle.triples.specs.Shuffles.{f, InRange}
 use Rattle.spreading.specs.Spreads.{SpreadBy, Spread}
-use Rattle.spreading.specs.Minima.{entry, Addresses, Roomy}
+use Rattle.spreading.specs.Minima.{entry, fours, Round, Roomy}
 
 pub spread-one : {distance : ℕ → ℕ → ℕ} {φ : ℕ → ℕ} {n r s : ℕ} → SpreadBy distance φ n r → SpreadBy distance φ n s → r ≡ s
 spread-one {r = r} {s = s} a b = omega (arith, a .largest s (b .high) (b .spreads), b .largest r (a .high) (a .spreads))
@@ -30,17 +28,22 @@ spread-same {distance} {φ} {ψ} {n} {s} e a =
 
 -- ---- the spread of a triple, from a table that lists its addresses
 
-module _ (t : Triple) {before table : List ℕ} (l : Written (f t) (t .k) before table) where
-  pub table-addresses : InRange t → Roomy before (t .k) → Addresses table (t .k) (t .k) × Roomy table (t .k) × (1 ≤ t .k)
-  table-addresses range room = (
-    record {
-      few = range .high;
-      within = omega (arith, l .size, room .within);
-      below = λ x h. subst (λ (a : ℕ). a < t .k) (sym (l .entries x h)) (mod-lt _ (omega (arith, range .low)));
-    },
-    record { room = room .room; within = omega (arith, l .size, room .within); enough = room .enough },
-    omega (arith, range .low),
-  )
+module _ (t : Triple) {before table : List ℕ} (l : Written (f t) (fours (t .k)) before table) (range : InRange t) where
+  all : (t .k ≤ fours (t .k)) × (fours (t .k) ≤ 8192)
+  all =
+      let low : (t .k + 3) % 4 < 4 = mod-lt (t .k + 3) (omega arith) in
+      (omega (arith, div-add-mod (t .k + 3) 4), omega (arith, div-add-mod (t .k + 3) 4, range .high))
+
+  pub table-round : Roomy before (t .k) → Round table (t .k) (fours (t .k))
+  table-round roomy =
+      record {
+        few = all .1;
+        some = omega (arith, range .low);
+        all = all .0;
+        below = λ i h. subst (λ (a : ℕ). a < t .k) (sym (l .entries i (omega (arith, all .0)))) (mod-lt _ (omega (arith, range .low)));
+        again = λ i h. l .entries i h ∙ sym (wrap t i) ∙ sym (l .entries (i % t .k) (lt-of-lt-of-le (mod-lt i (omega (arith, range .low))) (all .0)));
+        behind = record { room = roomy .room; within = omega (arith, l .size, roomy .within); enough = roomy .enough };
+      }
 
   pub table-spread : {s : ℕ} → Spread (entry table) (t .k) s → Spread (f t) (t .k) s
-  table-spread = spread-same (l .entries)
+  table-spread = spread-same (λ x h. l .entries x (omega (arith, all .0)))

@@ -2,7 +2,7 @@
 use mathlib.Core.Path.{_≡_}
 use mathlib.Core.Logic.{_⊎_}
 use mathlib.Core.List.{List}
-use Prim.Native.Nat.{ℕ, _+_, _*_, _%_, _≤_, _<_}
+use Prim.Native.Nat.{ℕ, _+_, _*_, _/_, _%_, _≤_, _<_}
 use lib.ListN.{length, getD}
 use Rattle.spreading.specs.Spreads.{circular}
 
@@ -30,8 +30,24 @@ pub record Addresses (list : List ℕ) (n places : ℕ) : Type 0 where
   pub within : places ≤ length list
   pub below : (i : ℕ) → i < places → entry list i < n
 
--- Behind n places there is room for an entry for each distance of a search: a spread of s takes more than s·(s - 1) positions.
-pub record Roomy (list : List ℕ) (n : ℕ) : Type 0 where
+-- The next multiple of 4.
+abbrev pub fours : ℕ → ℕ
+fours n = (n + 3) / 4 * 4
+
+-- A search goes on by an entry for each distance, and a spread of s takes more than s·(s - 1) positions: so there is room behind these places.
+pub record Room (list : List ℕ) (n places : ℕ) : Type 0 where
   pub room : ℕ
-  pub within : n + room ≤ length list
+  pub within : places + room ≤ length list
   pub enough : n ≤ room * (room + 1)
+
+abbrev pub Roomy : List ℕ → ℕ → Type 0
+Roomy list n = Room list n (fours n)
+
+-- The list holds n addresses and goes on from its start for so many places in all.
+pub record Round (list : List ℕ) (n places : ℕ) : Type 0 where
+  pub few : places ≤ 8192
+  pub some : 1 ≤ n
+  pub all : n ≤ places
+  pub below : (i : ℕ) → i < n → entry list i < n
+  pub again : (i : ℕ) → i < places → entry list i ≡ entry list (i % n)
+  pub behind : Room list n places

@@ -1,11 +1,10 @@
 // The spread of a shuffle.
 use triples::Triple;
 ghost use mathlib.Core.Path.{_≡_};
-ghost use Prim.Native.Nat.{_+_, _-_, _≤_, _<_, min, max};
-ghost use lib.ListN.{length};
+ghost use Prim.Native.Nat.{_+_, min, max};
 ghost use Rattle.triples.specs.Shuffles.{f, InRange};
-ghost use Rattle.spreading.specs.Spreads.{line, circular, Spread};
-ghost use Rattle.spreading.specs.Minima.{Least, entry, pair, Addresses, Roomy};
+ghost use Rattle.spreading.specs.Spreads.{line, Spread};
+ghost use Rattle.spreading.specs.Minima.{Least, entry, pair, Addresses, Round, Roomy};
 
 fn lesser(a: u16, b: u16) -> u16
     ensures { λ r. ⌜ r ≡ min a b ⌝ }
@@ -25,42 +24,37 @@ fn along(a: u16, b: u16) -> u16
     if a < b { b - a } else { a - b }
 }
 
-// The longer way round n from one address to another.
-fn longer_way(a: u16, b: u16, n: u16) -> u16
-    requires { ⌜ (a < n) × (b < n) ⌝ }
-    ensures { λ r. ⌜ r ≡ n - circular n a b ⌝ }
+// The distance round n of the closest addresses at positions d apart, over so many pairs. Round the circle the closest are at the least or at
+// the greatest distance along the line, and to keep both takes less than to go round for each pair.
+fn closest(list: &[u16], n: u16, d: usize, pairs: usize) -> u16
+    requires { ⌜ Addresses (now list) n (pairs + d) ⌝ }
+    ensures { λ r. ⌜ Least (pair (now (list .entry)) n d) pairs n r ⌝ }
 {
-    let way = along(a, b);
-    greater(way, n - way)
-}
-
-// The distance round n of the closest addresses at positions d apart, in a list that goes on from its start. They are those with the longest
-// way the other way round, and a greatest number of 16 bits is found sooner than a least one.
-fn closest(list: &[u16], n: u16, d: usize) -> u16
-    requires { ⌜ Addresses (now list) n (n + d) ⌝ }
-    ensures { λ r. ⌜ Least (pair (now (list .entry)) n d) n n r ⌝ }
-{
-    let mut longest = 0;
+    let mut least = n;
+    let mut most = 0;
     let mut i: usize = 0;
-    while i < n as usize {
-        longest = greater(longest, longer_way(list[i], list[i + d], n));
+    while i < pairs {
+        let way = along(list[i], list[i + d]);
+        least = lesser(least, way);
+        most = greater(most, way);
         i += 1;
     }
-    n - longest
+    lesser(least, n - most)
 }
 
-// The spread of the first n addresses, going up from 1: it stops at the first distance that settles it. Behind them the list goes on from its
-// start, by one entry for each distance, so that no pair crosses an end.
-fn search(list: &mut [u16], n: u16) -> u16
-    requires { ⌜ Addresses (now list) n n × Roomy (now list) n × (1 ≤ n) ⌝ }
+// The spread of n addresses, going up from 1: it stops at the first distance that settles it. Behind its places the list goes on from its start,
+// by one entry for each distance, so that no pair crosses an end.
+fn search(list: &mut [u16], n: u16, places: usize) -> u16
+    requires { ⌜ Round (now list) n places ⌝ }
     ensures { λ s. ⌜ Spread (entry (now (list .entry))) n s ⌝ }
 {
     let mut least = n;
     let mut s = 1;
     while s < least {
         let d = s as usize;
-        list[n as usize + d - 1] = list[d - 1];
-        least = lesser(least, closest(list, n, d));
+        let end = places + d - 1;
+        list[end] = list[end - n as usize];
+        least = lesser(least, closest(list, n, d, places));
         if least <= s {
             return s;
         }
@@ -69,13 +63,15 @@ fn search(list: &mut [u16], n: u16) -> u16
     s
 }
 
-// The addresses are listed in the lent table first.
+// The addresses are listed in the lent table first, and the first of them again up to a multiple of 4: pairs are compared by fours, and none is
+// left over.
 fn measure(t: Triple, table: &mut [u16]) -> u16
     requires { ⌜ InRange t × Roomy (now table) (t .k) ⌝ }
     ensures { λ s. ⌜ Spread (f t) (t .k) s ⌝ }
 {
-    triples::fill(t, t.k as usize, table);
-    search(table, t.k as u16)
+    let places = (t.k as usize + 3) / 4 * 4;
+    triples::fill(t, places, table);
+    search(table, t.k as u16, places)
 }
 
 // The spread. A short shuffle has a short table, which is cleared sooner.
