@@ -1,13 +1,13 @@
 -- The search for the spread, which goes up through the distances.
 use mathlib.Core.Path.{_≡_, refl, sym, subst, _∙_}
 use mathlib.Core.Logic.{_⊎_, inl, inr, ⊎-elim, by-cases}
-use Prim.Native.Nat.{ℕ, _+_, _-_, _%_, _≤_, _<_}
-use native.Mathlib.Nat.{mod-lt, le-trans, lt-of-le-of-lt, lt-of-lt-of-le}
+use Prim.Native.Nat.{ℕ, _+_, _-_, _/_, _%_, _≤_, _<_, min}
+use native.Mathlib.Nat.{mod-lt, div-add-mod, le-trans, lt-of-le-of-lt, lt-of-lt-of-le}
 use native.Mathlib.Decide.{ℕ-discrete, decLt}
 use native.Mathlib.Omega.{arith}
 use Rattle.numbers.specs.Congruences.{Cong}
 use Rattle.numbers.proofs.Congruences.{cong-sym, cong-mod, cong-small, _⨾_}
-use Rattle.spreading.specs.Spreads.{circular, Spreads, Spread}
+use Rattle.spreading.specs.Spreads.{line, circular, Spreads, Spread}
 use Rattle.spreading.specs.Minima.{Least, gap}
 use Rattle.spreading.proofs.Circles.{circular-swap, circular-some, further-on, ahead}
 
@@ -28,10 +28,30 @@ module _ (φ : ℕ → ℕ) (n : ℕ) where
     pub fits : s ≤ least
     pub top : least ≤ n
     pub far : (d x : ℕ) → 0 < d → d < s → x < n → least ≤ gap φ n d x
-    pub met : (least ≡ n) ⊎ Near s least
+    pub met : (least ≡ n / 2) ⊎ Near s least
 
-  pub search-start : {least : ℕ} → 1 ≤ n → least ≡ n → Searching 1 least
-  search-start h e = record { low = omega arith; fits = omega arith; top = omega arith; far = λ d x p l w. absurd (omega arith); met = inl e }
+  halves : (n / 2 + n / 2 ≤ n) × (n ≤ n / 2 + n / 2 + 1)
+  halves =
+      let low : n % 2 < 2 = mod-lt n (omega arith) in
+      (omega (arith, div-add-mod n 2), omega (arith, div-add-mod n 2))
+
+  pub search-start : {least : ℕ} → 2 ≤ n → least ≡ n / 2 → Searching 1 least
+  search-start h e =
+      let (below, above) = halves in
+      record { low = omega arith; fits = omega arith; top = omega arith; far = λ d x p l w. absurd (omega arith); met = inl e }
+
+  -- no two addresses are further apart than half of the circle, and the first two positions are neighbours
+  half-largest : {s : ℕ} → 1 ≤ s → 1 ≤ n / 2 → n / 2 ≤ s → (q : ℕ) → Spreads (circular n) φ n q → q ≤ s
+  half-largest {s} low some h q spreads =
+      let (below, above) = halves in
+      by-cases (decLt 1 q)
+      (λ l.
+      let far = spreads 0 1 (omega arith) (omega arith) (λ e. omega arith) (omega arith) in
+      let half = within (line (φ 0) (φ 1)) in
+      omega arith) (λ l. omega arith)
+    where
+      within : (w : ℕ) → min w (n - w) ≤ n / 2
+      within w = let (below, above) = halves in omega arith
 
   here : {s least r : ℕ} → Searching s least → s < least → (x : ℕ) → x < n → r ≡ gap φ n s x → Near (s + 1) r
   here {s} g h x lx e =
@@ -54,7 +74,7 @@ module _ (φ : ℕ → ℕ) (n : ℕ) where
       far d x p q lx (yes e) = subst (λ (m : ℕ). least′ ≤ gap φ n m x) (sym e) (l .below x lx)
       far d x p q lx (no e) = omega (arith, l .first, g .far d x p (omega arith) lx)
 
-      met : (least′ ≡ least) ⊎ ((x : ℕ) × (x < n) × (least′ ≡ gap φ n s x)) → (least ≡ n) ⊎ Near s least → (least′ ≡ n) ⊎ Near (s + 1) least′
+      met : (least′ ≡ least) ⊎ ((x : ℕ) × (x < n) × (least′ ≡ gap φ n s x)) → (least ≡ n / 2) ⊎ Near s least → (least′ ≡ n / 2) ⊎ Near (s + 1) least′
       met (inr (x, lx, e)) o = inr (here g t x lx e)
       met (inl e) (inl o) = inl (e ∙ o)
       met (inl e) (inr w) = inr (more w e)
@@ -95,6 +115,6 @@ module _ (φ : ℕ → ℕ) (n : ℕ) where
   pub search-met : {s least : ℕ} → Searching s least → least ≤ s → Spread φ n s
   search-met {s} {least} g h = found g (largest (g .met))
     where
-      largest : (least ≡ n) ⊎ Near s least → (q : ℕ) → q ≤ n → Spreads (circular n) φ n q → q ≤ s
-      largest (inl e) q l _ = omega arith
+      largest : (least ≡ n / 2) ⊎ Near s least → (q : ℕ) → q ≤ n → Spreads (circular n) φ n q → q ≤ s
+      largest (inl e) q _ spreads = half-largest (g .low) (omega (arith, g .low, g .fits)) (omega arith) q spreads
       largest (inr w) q _ spreads = near-largest (more w refl) h q spreads

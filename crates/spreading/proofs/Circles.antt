@@ -16,7 +16,7 @@ pub circular-some : (n a b : ℕ) → a < n → b < n → a ≢ b → 0 < circul
 circular-some n a b la lb ne = omega arith
 
 -- across the end
-pub across : (n x d : ℕ) → n ≤ x + d → x < n → d < n → (x + d) % n ≡ x + d - n
+across : (n x d : ℕ) → n ≤ x + d → x < n → d < n → (x + d) % n ≡ x + d - n
 across n x d h lx ld = cong-same (record { l = 0; r = 1; eq = omega arith }) ∙ mod-eq-of-lt (omega arith)
 
 -- d further on is at most d away, and elsewhere

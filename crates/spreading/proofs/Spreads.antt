@@ -38,7 +38,7 @@ module _ (t : Triple) {before table : List ℕ} (l : Written (f t) (fours (t .k)
   table-round roomy =
       record {
         few = all .1;
-        some = omega (arith, range .low);
+        some = range .low;
         all = all .0;
         below = λ i h. subst (λ (a : ℕ). a < t .k) (sym (l .entries i (omega (arith, all .0)))) (mod-lt _ (omega (arith, range .low)));
         again = λ i h. l .entries i h ∙ sym (wrap t i) ∙ sym (l .entries (i % t .k) (lt-of-lt-of-le (mod-lt i (omega (arith, range .low))) (all .0)));

@@ -48,7 +48,7 @@ module _ {list : List ℕ} {n places : ℕ} (l : Round list n places) where
           record {
             few = le-trans (l .all) (l .few);
             within = on-room g;
-            below = λ i h. subst (λ (a : ℕ). a < n) (sym (g .entries i (omega arith))) (l .below (i % n) (mod-lt i (l .some)));
+            below = λ i h. subst (λ (a : ℕ). a < n) (sym (g .entries i (omega arith))) (l .below (i % n) (mod-lt i (omega (arith, l .some))));
           }
 
       same : (y : ℕ) → y < places → pair after n s y ≡ gap (entry list) n s (y % n)
@@ -61,4 +61,4 @@ module _ {list : List ℕ} {n places : ℕ} (l : Round list n places) where
       on-closest closest e =
           least-from closest
           (λ x h. (x, omega (arith, l .all), ap (gap (entry list) n s) (sym (mod-eq-of-lt h)) ∙ sym (same x (omega (arith, l .all)))))
-          (λ y h. (y % n, mod-lt y (l .some), same y h)) (search .top) e
+          (λ y h. (y % n, mod-lt y (omega (arith, l .some)), same y h)) (search .top) e

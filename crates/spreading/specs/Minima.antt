@@ -46,7 +46,7 @@ Roomy list n = Room list n (fours n)
 -- The list holds n addresses and goes on from its start for so many places in all.
 pub record Round (list : List ℕ) (n places : ℕ) : Type 0 where
   pub few : places ≤ 8192
-  pub some : 1 ≤ n
+  pub some : 2 ≤ n
   pub all : n ≤ places
   pub below : (i : ℕ) → i < n → entry list i < n
   pub again : (i : ℕ) → i < places → entry list i ≡ entry list (i % n)

@@ -42,13 +42,13 @@ fn closest(list: &[u16], n: u16, d: usize, pairs: usize) -> u16
     lesser(least, n - most)
 }
 
-// The spread of n addresses, going up from 1: it stops at the first distance that settles it. Behind its places the list goes on from its start,
-// by one entry for each distance, so that no pair crosses an end.
+// The spread of n addresses, going up from 1: it stops at the first distance that settles it. No two are further apart than half of n. Behind its
+// places the list goes on from its start, by one entry for each distance, so that no pair crosses an end.
 fn search(list: &mut [u16], n: u16, places: usize) -> u16
     requires { ⌜ Round (now list) n places ⌝ }
     ensures { λ s. ⌜ Spread (entry (now (list .entry))) n s ⌝ }
 {
-    let mut least = n;
+    let mut least = n / 2;
     let mut s = 1;
     while s < least {
         let d = s as usize;
