@@ -1,4 +1,5 @@
 // The program behind ./ask: reads standard input to its end, and answers each line on standard output.
+#![tactic(auto)]
 mod calls;
 mod encoding;
 mod questions;

@@ -1,4 +1,5 @@
 // The card program: reads standard input to its end, and writes a card for each line to standard output.
+#![tactic(auto)]
 ghost use Rattle.std.specs.Prelude.{◌+◌, ◌≤◌, length};
 ghost use Rattle.cards.specs.Cards.{room};
 

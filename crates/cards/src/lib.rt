@@ -1,4 +1,5 @@
 // The card of a line of text.
+#![tactic(auto)]
 mod composing;
 mod lines;
 mod reading;

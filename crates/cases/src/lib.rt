@@ -1,1 +1,2 @@
 // The proved cases: definitions and their proof, and no code.
+#![tactic(auto)]

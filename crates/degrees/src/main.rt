@@ -1,4 +1,5 @@
 // Prints the standard's rows that no quadratic undoes, each with the degree of its inverse, and how many they are.
+#![tactic(auto)]
 use asking::printing::{field, number, say};
 use triples::Triple;
 

@@ -1,4 +1,5 @@
 // The inverse of a shuffle, as a polynomial.
+#![tactic(auto)]
 mod terms;
 
 ghost use Rattle.std.specs.Prelude.{◌≡◌, length, drop};

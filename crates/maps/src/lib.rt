@@ -1,5 +1,6 @@
 // A map of positions as the movers follow it: with no division for each place. The coefficients are scaled once, and then a place is
 // found by products alone.
+#![tactic(auto)]
 ghost use Rattle.std.specs.Prelude.{◌≡◌, ◌<◌};
 ghost use Rattle.triples.specs.Shuffles.{InRange};
 ghost use Rattle.maps.specs.Maps.{to, Sound, MapOf};

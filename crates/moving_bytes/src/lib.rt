@@ -1,4 +1,5 @@
 // Blocks of unsigned bytes moved by a map; `moving` says how.
+#![tactic(auto)]
 mod deinterleave;
 mod interleave;
 

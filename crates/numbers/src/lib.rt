@@ -1,4 +1,6 @@
 // Numbers: the greatest common divisor and what rests on it, and primes. Nothing here knows of a shuffle.
+#![tactic(auto)]
+
 mod factoring;
 
 ghost use Rattle.std.specs.Prelude.{◌≡◌, ◌*◌, ◌%◌, ◌≤◌, ◌<◌};

@@ -1,4 +1,5 @@
 // Polynomials modulo K, brought inside the limits of their coefficients. Nothing here knows of a shuffle.
+#![tactic(auto)]
 mod products;
 
 ghost use Rattle.std.specs.Prelude.{◌≡◌, ◌+◌, ◌≤◌, ◌<◌, length};

@@ -1,4 +1,5 @@
 // The spread of a shuffle.
+#![tactic(auto)]
 ghost use Rattle.std.specs.Prelude.{◌≡◌, ◌+◌, min, max};
 ghost use Rattle.triples.specs.Shuffles.{f, InRange};
 ghost use Rattle.spreading.specs.Spreads.{line, Spread};

@@ -1,4 +1,5 @@
 // The rows of 3GPP TS 36.212, table 5.1.3-3: the standard's block lengths, each with its two coefficients.
+#![tactic(auto)]
 mod table;
 
 ghost use Rattle.std.specs.Prelude.{◌≡◌, ◌<◌};

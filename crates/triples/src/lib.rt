@@ -1,4 +1,5 @@
 // What a triple of numbers means: where it sends a position.
+#![tactic(auto)]
 mod listing;
 pub mod striding;
 

@@ -1,4 +1,5 @@
 // The encoder's calls. None trusts its caller, as in `qpp`; include/turbo.h declares their names for C.
+#![tactic(auto)]
 mod encoder;
 mod lengths;
 

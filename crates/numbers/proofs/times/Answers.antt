@@ -3,16 +3,11 @@ use mathlib.Core.Path.{refl}
 use Prim.Native.Nat.{◌*◌}
 use native.Mathlib.Nat.{mod-lt, mul-le-mul}
 use native.Mathlib.Omega.{arith}
-use borrow.Author.Rules.{rules}
-use Rattle.numbers.proofs.times.Statement.{statement}
-use Rattle.numbers.proofs.times.Tie as tie
+use Rattle.numbers.proofs.times.Goals as goal
 
-mul-result : tie.Need-overflow-mul-result
-mul-result c =
+pub overflow_mul-result : goal.overflow_mul-result
+overflow_mul-result c =
     omega (arith, mul-le-mul {n₁ = c.args.a} {m₁ = c.args.b} {n₂ = 8192} {m₂ = 8192} (omega arith) (omega arith))
 
-returns : tie.Need-returns
+pub returns : goal.returns
 returns c = (refl, mod-lt (c.args.a * c.args.b) (omega arith))
-
-pub times-spec : {M : Type 1} → statement M
-times-spec = tie.close (tie.spec mul-result (λ c. search rules) returns)
