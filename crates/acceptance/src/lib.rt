@@ -1,5 +1,6 @@
 // Which triples are shuffles.
 #![tactic(auto)]
+
 ghost use Rattle.std.specs.Prelude.{◌≡◌};
 ghost use Rattle.numbers.specs.Decision.{Decides};
 ghost use Rattle.permuting.specs.Formulas.{Permutes};

@@ -1,6 +1,7 @@
 // A map of positions as the movers follow it: with no division for each place. The coefficients are scaled once, and then a place is
 // found by products alone.
 #![tactic(auto)]
+
 ghost use Rattle.std.specs.Prelude.{◌≡◌, ◌<◌};
 ghost use Rattle.triples.specs.Shuffles.{InRange};
 ghost use Rattle.maps.specs.Maps.{to, Sound, MapOf};
@@ -12,7 +13,7 @@ use triples::Triple;
 const SCALE: u64 = 2251799813685248;
 
 // The length, and the coefficients in parts of which SCALE make K.
-#[derive(Drop)]
+#[derive(Clone, Copy)]
 pub struct Map {
     pub k: u32,
     pub f1: u64,

@@ -5,6 +5,7 @@
 // hand, since its place is the first to be stored to. Deinterleaving, each symbol goes to the place that the map leads to, and the one
 // that stood there is carried on.
 #![tactic(auto)]
+
 ghost use Rattle.std.specs.Prelude.{◌/◌, ◌≤◌, ◌<◌, length};
 ghost use Rattle.permuting.specs.Bitmap.{Followed};
 ghost use Rattle.permuting.specs.Scratch.{Cleared};

@@ -7,7 +7,7 @@ use native.Mathlib.Omega.{arith}
 use native.Mathlib.Decide.{dec_lt}
 use lib.ListN.{length}
 use lib.Seq.{ext_get_or}
-use lib.IntN.{ℤ, pos, ◌+ℤ◌, ◌*ℤ◌, *ℤ_zero}
+use lib.IntN.{ℤ, pos, ◌+ℤ◌, ◌*ℤ◌, *ℤ-zero}
 use Rattle.numbers.specs.Congruences.{Cong}
 use Rattle.numbers.proofs.Congruences.{cong_small}
 use Rattle.polynomials.specs.Polynomials.{value, coefficient, wholes, Below, Congruent}
@@ -40,7 +40,7 @@ value_zero [] y z = refl
 value_zero (a ∷ p) y z =
     ap (λ (t : ℤ). t +ℤ y *ℤ value p y) (z 0 (omega arith))
     ∙ ap (λ (t : ℤ). pos 0 +ℤ y *ℤ t) (value_zero p y (λ k l. z (suc k) (omega arith)))
-    ∙ ap (λ (t : ℤ). pos 0 +ℤ t) (*ℤ_zero y)
+    ∙ ap (λ (t : ℤ). pos 0 +ℤ t) (*ℤ-zero y)
 
 module _ (K : ℕ) (φ : ℕ → ℕ) (two : 1 < K) (onto : Onto K φ) where
   agree_undoing : (g h : List ℤ) → Undoes K φ g → Undoes K φ h → Agree K g h

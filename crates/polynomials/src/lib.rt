@@ -1,5 +1,6 @@
 // Polynomials modulo K, brought inside the limits of their coefficients. Nothing here knows of a shuffle.
 #![tactic(auto)]
+
 mod products;
 
 ghost use Rattle.std.specs.Prelude.{◌≡◌, ◌+◌, ◌≤◌, ◌<◌, length};

@@ -9,7 +9,7 @@ use triples::Triple;
 
 // A position of a triple. A walker made by hand may hold anything.
 #[repr(C)]
-#[derive(Drop)]
+#[derive(Clone, Copy)]
 pub struct Walker {
     pub triple: Triple,
     pub at: u32,

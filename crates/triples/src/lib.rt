@@ -1,5 +1,6 @@
 // What a triple of numbers means: where it sends a position.
 #![tactic(auto)]
+
 mod listing;
 pub mod striding;
 
@@ -10,7 +11,7 @@ pub use listing::fill;
 
 // A block length and two coefficients, as they came: nothing is known of them.
 #[repr(C)]
-#[derive(Drop)]
+#[derive(Clone, Copy)]
 pub struct Triple {
     pub k: u32,
     pub f1: u32,

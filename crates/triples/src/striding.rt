@@ -8,7 +8,7 @@ use crate::Triple;
 
 // An address, how far it is down to the next, and how far that goes down each time: f rises by f1 + f2·(2x + 1), and that by 2·f2. It is
 // counted down modulo k, since a difference tells of itself whether it went below 0, and a sum is compared with k.
-#[derive(Drop)]
+#[derive(Clone, Copy)]
 pub struct Stride {
     pub k: usize,
     pub address: usize,

@@ -9,11 +9,11 @@ use Rattle.arp.proofs.form_of.Statement.{statement}
 use Rattle.arp.proofs.form_of.Tie as tie
 
 period-requires : tie.Need-period-requires
-period-requires c κs = in_form c.before.requires c.odd_form_lem.ensures
+period-requires c κs = in_form c.before.requires c.odd_form.ensures
 
 returns : tie.Need-returns
 returns c =
-    let e = c.before.odd_form_lem.ensures in
+    let e = c.before.odd_form.ensures in
     let start = c.before.before in
     record {
       numbers =

@@ -10,12 +10,12 @@ use Rattle.inverting.proofs.reciprocal.Tie as tie
 
 reciprocal-requires : tie.Need-reciprocal-requires
 reciprocal-requires c κs =
-    let u = odd_unit c.before.requires c.odd_form_lem.ensures in
+    let u = odd_unit c.before.requires c.odd_form.ensures in
     (u.range.low, u.range.high, u.range.first, u.coprime)
 
 returns : tie.Need-returns
 returns c =
-    let made = c.before.odd_form_lem.ensures in
+    let made = c.before.odd_form.ensures in
     subst₂ (λ (k a : ℕ). Reciprocal k a c.reciprocal.result) (odd_unit c.before.before.requires made).length (ap (λ (o : Triple). o.f1) made)
     c.reciprocal.ensures
 

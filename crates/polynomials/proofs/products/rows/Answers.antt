@@ -8,8 +8,7 @@ use lib.Dec.{T, eqb, eqb→eq}
 use lib.ListN.{get_or}
 use Rattle.numbers.proofs.Computation.{every, passes}
 use Rattle.polynomials.specs.RisingProducts.{rising, times_linear, Rows}
-use Rattle.polynomials.proofs.products.rows.Statement.{statement}
-use Rattle.polynomials.proofs.products.rows.Tie as tie
+use Rattle.polynomials.proofs.products.rows.Goals as goal
 
 right : List ℕ → ℕ → ℕ → Bool
 right rows n j = eqb (get_or rows ((n - 1) * (n - 2) / 2 + j - 1) 0) (get_or (rising n) j 0)
@@ -23,9 +22,6 @@ rule {rows} test = record {
       (passes (n - 1) (λ (i : ℕ). right rows n (i + 1)) (passes 14 (λ (n : ℕ). every (n - 1) (λ (i : ℕ). right rows n (i + 1))) test n (omega arith)) (j - 1) (omega arith)));
 }
 
-returns : tie.Need-returns
+pub returns : goal.returns
 unfolding right rising times_linear
 returns c = rule tt
-
-pub rows-spec : {M : Type 1} → statement M
-rows-spec = tie.close (tie.spec returns)
