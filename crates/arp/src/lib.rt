@@ -1,5 +1,6 @@
 // The almost regular form of a shuffle.
 #![tactic(auto)]
+
 ghost use Rattle.std.specs.Prelude.{◌≤◌, length};
 ghost use Rattle.triples.specs.Shuffles.{InRange};
 ghost use Rattle.numbers.specs.Lists.{Written};

@@ -1,5 +1,6 @@
 // Why a triple in range is no shuffle: two positions share an address, and f fails to permute modulo a prime power of K.
 #![tactic(auto)]
+
 mod colliding;
 mod failing;
 

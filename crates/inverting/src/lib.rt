@@ -1,5 +1,6 @@
 // The inverse of a shuffle, as a polynomial.
 #![tactic(auto)]
+
 mod terms;
 
 ghost use Rattle.std.specs.Prelude.{◌≡◌, length, drop};

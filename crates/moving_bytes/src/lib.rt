@@ -1,5 +1,6 @@
 // Blocks of unsigned bytes moved by a map; `moving` says how.
 #![tactic(auto)]
+
 mod deinterleave;
 mod interleave;
 

@@ -1,6 +1,7 @@
 // The table of refusals. Each function gives the number that its tests lead to, in the order of the table; a call asks one after the
 // other.
 #![tactic(auto)]
+
 mod binary;
 
 ghost use Rattle.std.specs.Prelude.{◌≡◌, [], ◌∷◌, ◌≤◌};

@@ -1,5 +1,6 @@
 // The spread of a shuffle.
 #![tactic(auto)]
+
 ghost use Rattle.std.specs.Prelude.{◌≡◌, ◌+◌, min, max};
 ghost use Rattle.triples.specs.Shuffles.{f, InRange};
 ghost use Rattle.spreading.specs.Spreads.{line, Spread};

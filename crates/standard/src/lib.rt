@@ -1,5 +1,6 @@
 // The rows of 3GPP TS 36.212, table 5.1.3-3: the standard's block lengths, each with its two coefficients.
 #![tactic(auto)]
+
 mod table;
 
 ghost use Rattle.std.specs.Prelude.{◌≡◌, ◌<◌};

@@ -1,0 +1,18 @@
+-- Invariants, measures and ends are those of interleaving bytes, but that the symbol in hand is the one that stood at i.
+use Prim.Native.Nat.{◌-◌}
+use Rattle.permuting.specs.Blocks.{deinterleave}
+use Rattle.permuting.proofs.Traversal.{Between, Cycle, unseen}
+use Rattle.maps.specs.Maps.{to}
+use Rattle.moving_bytes.proofs.deinterleave.deinterleave_u8.Given as goal
+
+abbrev pub invariant-cycle : goal.invariant-cycle
+invariant-cycle l = Cycle deinterleave 0 l.map.k (to l.map) l.initial.block l.initial.scratch l.start l.block l.scratch l.i l.carried
+
+abbrev pub invariant-loop-start : goal.invariant-loop-start
+invariant-loop-start l = Between deinterleave 0 l.map.k (to l.map) l.initial.block l.initial.scratch l.block l.scratch l.start
+
+abbrev pub decreases-cycle : goal.decreases-cycle
+decreases-cycle l = unseen l.map.k l.scratch
+
+abbrev pub decreases-loop-start : goal.decreases-loop-start
+decreases-loop-start l = l.map.k - l.start
