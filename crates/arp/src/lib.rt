@@ -27,7 +27,7 @@ fn period(odd: Triple) -> u32
 }
 
 // P and Q, and the odd form, which the shifts are made of.
-#[derive(Drop)]
+#[derive(Clone, Copy)]
 pub struct Form {
     pub p: u32,
     pub q: u32,

@@ -1,5 +1,6 @@
 // Blocks of signed 16-bit values moved by a map; `moving` says how.
 #![tactic(auto)]
+
 mod deinterleave;
 mod interleave;
 

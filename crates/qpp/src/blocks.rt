@@ -21,14 +21,7 @@ fn movable(t: Triple, block: usize, scratch: usize) -> u32
 }
 
 // Place i comes to hold the symbol that stood at f(i).
-#[unsafe(no_mangle)]
-pub extern "C" fn qpp_interleave_u8(
-    k: u32,
-    f1: u32,
-    f2: u32,
-    block: &mut [u8],
-    scratch: &mut [u8],
-) -> u32
+pub fn qpp_interleave_u8(k: u32, f1: u32, f2: u32, block: &mut [u8], scratch: &mut [u8]) -> u32
     ensures { Moves interleave (quadratic (triple k f1 f2)) 0 block.old scratch.old result block.new scratch.new }
 {
     let t = Triple { k, f1, f2 };
@@ -41,14 +34,7 @@ pub extern "C" fn qpp_interleave_u8(
 }
 
 // Place f(i) comes to hold the symbol that stood at i.
-#[unsafe(no_mangle)]
-pub extern "C" fn qpp_deinterleave_u8(
-    k: u32,
-    f1: u32,
-    f2: u32,
-    block: &mut [u8],
-    scratch: &mut [u8],
-) -> u32
+pub fn qpp_deinterleave_u8(k: u32, f1: u32, f2: u32, block: &mut [u8], scratch: &mut [u8]) -> u32
     ensures { Moves deinterleave (quadratic (triple k f1 f2)) 0 block.old scratch.old result block.new scratch.new }
 {
     let t = Triple { k, f1, f2 };
@@ -61,14 +47,7 @@ pub extern "C" fn qpp_deinterleave_u8(
 }
 
 // Place i comes to hold the symbol that stood at f(i).
-#[unsafe(no_mangle)]
-pub extern "C" fn qpp_interleave_i16(
-    k: u32,
-    f1: u32,
-    f2: u32,
-    block: &mut [i16],
-    scratch: &mut [u8],
-) -> u32
+pub fn qpp_interleave_i16(k: u32, f1: u32, f2: u32, block: &mut [i16], scratch: &mut [u8]) -> u32
     ensures { Moves interleave (quadratic (triple k f1 f2)) (pos 0) block.old scratch.old result block.new scratch.new }
 {
     let t = Triple { k, f1, f2 };
@@ -81,14 +60,7 @@ pub extern "C" fn qpp_interleave_i16(
 }
 
 // Place f(i) comes to hold the symbol that stood at i.
-#[unsafe(no_mangle)]
-pub extern "C" fn qpp_deinterleave_i16(
-    k: u32,
-    f1: u32,
-    f2: u32,
-    block: &mut [i16],
-    scratch: &mut [u8],
-) -> u32
+pub fn qpp_deinterleave_i16(k: u32, f1: u32, f2: u32, block: &mut [i16], scratch: &mut [u8]) -> u32
     ensures { Moves deinterleave (quadratic (triple k f1 f2)) (pos 0) block.old scratch.old result block.new scratch.new }
 {
     let t = Triple { k, f1, f2 };

@@ -17,8 +17,7 @@ pub struct Reason {
 }
 
 // The first two positions that share an address, and the least prime at whose full power f fails to permute.
-#[unsafe(no_mangle)]
-pub extern "C" fn qpp_explain(k: u32, f1: u32, f2: u32) -> Reason
+pub fn qpp_explain(k: u32, f1: u32, f2: u32) -> Reason
     ensures { ReasonOf (triple k f1 f2) result }
 {
     let t = Triple { k, f1, f2 };

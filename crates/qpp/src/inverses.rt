@@ -15,8 +15,7 @@ pub struct InverseForm {
 }
 
 // The polynomial that sends every address back to its position.
-#[unsafe(no_mangle)]
-pub extern "C" fn qpp_inverse(k: u32, f1: u32, f2: u32) -> InverseForm
+pub fn qpp_inverse(k: u32, f1: u32, f2: u32) -> InverseForm
     ensures { InverseOf (triple k f1 f2) result }
 {
     let t = Triple { k, f1, f2 };

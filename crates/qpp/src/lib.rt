@@ -1,6 +1,7 @@
 // The interleaver's calls. None trusts its caller: each tests the numbers that it is given, and answers or
 // refuses by a number of the table. Each has its name for C, which include/qpp.h declares, and here a plain one.
 #![tactic(auto)]
+
 mod blocks;
 mod explanations;
 mod inverses;

@@ -7,8 +7,7 @@ use refusals::DONE;
 use triples::Triple;
 
 // Writes f(0) to f(K-1) into the list.
-#[unsafe(no_mangle)]
-pub extern "C" fn qpp_addresses(k: u32, f1: u32, f2: u32, list: &mut [u16]) -> u32
+pub fn qpp_addresses(k: u32, f1: u32, f2: u32, list: &mut [u16]) -> u32
     ensures { AddressList (quadratic (triple k f1 f2)) list.old result list.new }
 {
     let t = Triple { k, f1, f2 };
@@ -41,8 +40,7 @@ fn formless(number: u32) -> ArpForm
 }
 
 // The ARP form: P and Q, and S[0] to S[Q-1] into the list.
-#[unsafe(no_mangle)]
-pub extern "C" fn qpp_arp(k: u32, f1: u32, f2: u32, list: &mut [u16]) -> ArpForm
+pub fn qpp_arp(k: u32, f1: u32, f2: u32, list: &mut [u16]) -> ArpForm
     ensures { ArpOf (triple k f1 f2) list.old result list.new }
 {
     let t = Triple { k, f1, f2 };

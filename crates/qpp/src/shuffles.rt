@@ -22,8 +22,7 @@ fn refused(number: u32) -> Value
 }
 
 // Is the triple a shuffle?
-#[unsafe(no_mangle)]
-pub extern "C" fn qpp_accept(k: u32, f1: u32, f2: u32) -> u32
+pub fn qpp_accept(k: u32, f1: u32, f2: u32) -> u32
     ensures { Acceptance (quadratic (triple k f1 f2)) result }
 {
     refusals::accept(Triple { k, f1, f2 })
@@ -38,8 +37,7 @@ fn in_block(k: u32, x: u32) -> u32
 }
 
 // The address of the position x.
-#[unsafe(no_mangle)]
-pub extern "C" fn qpp_address(k: u32, f1: u32, f2: u32, x: u32) -> Value
+pub fn qpp_address(k: u32, f1: u32, f2: u32, x: u32) -> Value
     ensures { Address (quadratic (triple k f1 f2)) x result }
 {
     let t = Triple { k, f1, f2 };
@@ -54,8 +52,7 @@ pub extern "C" fn qpp_address(k: u32, f1: u32, f2: u32, x: u32) -> Value
 }
 
 // The reciprocal of f1 in the odd form.
-#[unsafe(no_mangle)]
-pub extern "C" fn qpp_reciprocal(k: u32, f1: u32, f2: u32) -> Value
+pub fn qpp_reciprocal(k: u32, f1: u32, f2: u32) -> Value
     ensures { ReciprocalOf (triple k f1 f2) result }
 {
     let t = Triple { k, f1, f2 };
@@ -70,8 +67,7 @@ pub extern "C" fn qpp_reciprocal(k: u32, f1: u32, f2: u32) -> Value
 }
 
 // The spread.
-#[unsafe(no_mangle)]
-pub extern "C" fn qpp_spread(k: u32, f1: u32, f2: u32) -> Value
+pub fn qpp_spread(k: u32, f1: u32, f2: u32) -> Value
     ensures { SpreadOf (quadratic (triple k f1 f2)) result }
 {
     let t = Triple { k, f1, f2 };

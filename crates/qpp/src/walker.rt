@@ -76,8 +76,7 @@ fn after(k: u32, at: u32) -> u32
 }
 
 // A walker at position 0, for a shuffle.
-#[unsafe(no_mangle)]
-pub extern "C" fn qpp_walker_start(k: u32, f1: u32, f2: u32) -> Start
+pub fn qpp_walker_start(k: u32, f1: u32, f2: u32) -> Start
     ensures { Started (triple k f1 f2) result }
 {
     let triple = Triple { k, f1, f2 };
@@ -116,8 +115,7 @@ impl Walker {
 }
 
 // A method has no name for C.
-#[unsafe(no_mangle)]
-pub extern "C" fn qpp_walker_step(w: Walker) -> Step
+pub fn qpp_walker_step(w: Walker) -> Step
     ensures { Stepped w result }
 {
     w.step()

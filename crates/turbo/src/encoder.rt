@@ -29,8 +29,7 @@ fn lendable(k: u32, input: &[u8], n0: usize, n1: usize, n2: usize) -> u32
 }
 
 // Writes the streams of a block, each K bits and a tail of four.
-#[unsafe(no_mangle)]
-pub extern "C" fn turbo_encode(
+pub fn turbo_encode(
     k: u32,
     input: &[u8],
     d0: &mut [u8],

@@ -12,8 +12,7 @@ pub struct Row {
 }
 
 // The coefficients that the standard has for a length.
-#[unsafe(no_mangle)]
-pub extern "C" fn turbo_row(k: u32) -> Row
+pub fn turbo_row(k: u32) -> Row
     ensures { RowOf k result }
 {
     let i = standard::find(k);
