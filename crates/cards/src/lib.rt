@@ -1,5 +1,6 @@
 // The card of a line of text.
 #![tactic(auto)]
+
 mod composing;
 mod lines;
 mod reading;

@@ -29,13 +29,7 @@ fn lendable(k: u32, input: &[u8], n0: usize, n1: usize, n2: usize) -> u32
 }
 
 // Writes the streams of a block, each K bits and a tail of four.
-pub fn turbo_encode(
-    k: u32,
-    input: &[u8],
-    d0: &mut [u8],
-    d1: &mut [u8],
-    d2: &mut [u8],
-) -> u32
+pub fn turbo_encode(k: u32, input: &[u8], d0: &mut [u8], d1: &mut [u8], d2: &mut [u8]) -> u32
     ensures { Encodes k input.now d0.old d1.old d2.old result d0.new d1.new d2.new }
 {
     let row = turbo_row(k);

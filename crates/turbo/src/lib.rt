@@ -1,5 +1,6 @@
 // The encoder's calls. None trusts its caller, as in `qpp`; include/turbo.h declares their names for C.
 #![tactic(auto)]
+
 mod encoder;
 mod lengths;
 
