@@ -2,10 +2,10 @@
 ghost use Rattle.std.specs.Prelude.{◌≡◌, ◌+◌, ◌<◌, ◌≤◌, length};
 
 use crate::printing::{number, say};
+use crate::scan::find;
 use crate::widths::{LONGEST, List};
 use crate::words::{Reader, failed, value_of};
 use crate::{widths, words};
-use bytes::scan::find;
 
 // What a list holds, by a letter: 16-bit entries, bytes, bytes that came as a text, or 16-bit symbols with a sign.
 const ENTRIES: u8 = b'l';
@@ -147,7 +147,7 @@ fn copy(word: &[u8], mut r: Reader, list: &mut List) -> Reader
 fn read(word: &[u8], mut r: Reader, list: &mut List) -> Reader
     ensures { (result.end ≡ r.end) × (result.n ≤ 8200) }
 {
-    if check::same(word, b"-") {
+    if word == b"-".as_slice() {
         r.n = 0;
         return r;
     }
@@ -197,53 +197,53 @@ pub fn take_scratch(line: &[u8], mut r: Reader, list: &mut List) -> Reader
     taken
 }
 
-fn write_entry(kind: u8, place: u16) {
+fn write_entry<R: Print>(rt: &R, kind: u8, place: u16) {
     let depth = depth(kind) as u32;
     let n = place as u32;
     if n < depth {
-        say(b"-");
-        return number(depth - n);
+        say(rt, b"-");
+        return number(rt, depth - n);
     }
-    number(n - depth)
+    number(rt, n - depth)
 }
 
 // An entry, with a comma before any but the first.
-fn show_entry(kind: u8, i: usize, place: u16) {
+fn show_entry<R: Print>(rt: &R, kind: u8, i: usize, place: u16) {
     if i > 0 {
-        say(b",");
+        say(rt, b",");
     }
-    write_entry(kind, place)
+    write_entry(rt, kind, place)
 }
 
-fn show_entries(kind: u8, list: &List, size: usize)
+fn show_entries<R: Print>(rt: &R, kind: u8, list: &List, size: usize)
     requires { size ≤ 8200 }
 {
     for i in 0..size {
-        show_entry(kind, i, list[i]);
+        show_entry(rt, kind, i, list[i]);
     }
 }
 
-fn show_text(list: &List, size: usize)
+fn show_text<R: Print>(rt: &R, list: &List, size: usize)
     requires { size ≤ 8200 }
 {
     let mut text = [0u8; 8200];
     widths::narrow(list, &mut text);
-    say(&text[0..size]);
+    say(rt, &text[0..size]);
 }
 
 // A space and a list of this size, where the kind is a letter.
-pub fn show(kind: u8, list: &List, size: usize)
+pub fn show<R: Print>(rt: &R, kind: u8, list: &List, size: usize)
     requires { size ≤ 8200 }
 {
     if !is_letter(kind) {
         return;
     }
-    say(b" ");
+    say(rt, b" ");
     if size == 0 {
-        return say(b"-");
+        return say(rt, b"-");
     }
     if kind == TEXT {
-        return show_text(list, size);
+        return show_text(rt, list, size);
     }
-    show_entries(kind, list, size)
+    show_entries(rt, kind, list, size)
 }

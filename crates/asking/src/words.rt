@@ -1,7 +1,7 @@
 // The words of a line, from left to right.
 ghost use Rattle.std.specs.Prelude.{◌≡◌, ◌≤◌, length};
 
-use bytes::scan::find;
+use crate::scan::find;
 
 // What is wrong with a word.
 pub const FINE: u8 = 0;
@@ -24,7 +24,7 @@ pub const MANY_WORDS: u8 = 8;
 
 // Where the present word stands and the how manieth it is; what number it is, or how long a list; of what kind the call is, or
 // the list; and what was wrong first.
-#[derive(Drop)]
+#[derive(Clone, Copy)]
 pub struct Reader {
     pub from: usize,
     pub end: usize,
@@ -81,7 +81,7 @@ pub fn next(line: &[u8], mut r: Reader) -> Reader
     let end = find(line, from, line.len(), b' ');
     r.from = from;
     r.end = end;
-    r.word = std::num::wrapping_add_u8(r.word, (r.fault == FINE) as u8);
+    r.word = r.word.wrapping_add((r.fault == FINE) as u8);
     if from == end {
         return failed(r, FEW_WORDS);
     }
