@@ -2,10 +2,10 @@
 ghost use Rattle.std.specs.Prelude.{◌≡◌, ◌≤◌, length};
 
 use asking::printing::{field, number};
+use asking::scan::find;
 use asking::widths::List;
 use asking::words::{Reader, failed};
 use asking::{widths, words};
-use bytes::scan::find;
 use qpp::{ArpForm, InverseForm, Reason, Start, Step, Value, Walker};
 use triples::Triple;
 
@@ -25,12 +25,12 @@ pub const ENCODER_CRC: u8 = b'c';
 fn find_row(table: &[u8], name: &[u8], mut r: Reader) -> Reader
     ensures { result.end ≡ r.end }
 {
-    let mut row = 0;
+    let mut row = 0u32;
     let mut at = 0;
     while ROW <= table.len() - at {
-        row = std::num::wrapping_add_u32(row, 1);
+        row = row.wrapping_add(1);
         let end = find(table, at, at + ROW, b' ');
-        if check::same(&table[at..end], name) {
+        if &table[at..end] == name {
             r.n = row;
             r.kind = table[at + KIND];
             return r;
@@ -70,51 +70,51 @@ pub fn take_call(line: &[u8]) -> Reader
     )
 }
 
-fn show_value(v: Value) {
-    number(v.number);
-    field(v.value)
+fn show_value<R: Print>(rt: &R, v: Value) {
+    number(rt, v.number);
+    field(rt, v.value)
 }
 
-fn show_inverse(inverse: InverseForm) {
-    number(inverse.number);
-    field(inverse.degree);
+fn show_inverse<R: Print>(rt: &R, inverse: InverseForm) {
+    number(rt, inverse.number);
+    field(rt, inverse.degree);
     let a = inverse.a;
     for i in 0..13 {
-        field(a[i]);
+        field(rt, a[i]);
     }
 }
 
-fn show_arp(form: ArpForm) {
-    number(form.number);
-    field(form.p);
-    field(form.q)
+fn show_arp<R: Print>(rt: &R, form: ArpForm) {
+    number(rt, form.number);
+    field(rt, form.p);
+    field(rt, form.q)
 }
 
-fn show_walker(w: Walker) {
+fn show_walker<R: Print>(rt: &R, w: Walker) {
     let t = w.triple;
-    field(t.k);
-    field(t.f1);
-    field(t.f2);
-    field(w.at)
+    field(rt, t.k);
+    field(rt, t.f1);
+    field(rt, t.f2);
+    field(rt, w.at)
 }
 
-fn show_start(start: Start) {
-    number(start.number);
-    show_walker(start.walker)
+fn show_start<R: Print>(rt: &R, start: Start) {
+    number(rt, start.number);
+    show_walker(rt, start.walker)
 }
 
-fn show_step(step: Step) {
-    number(step.number);
-    field(step.address);
-    show_walker(step.walker)
+fn show_step<R: Print>(rt: &R, step: Step) {
+    number(rt, step.number);
+    field(rt, step.address);
+    show_walker(rt, step.walker)
 }
 
-fn show_reason(reason: Reason) {
-    number(reason.number);
-    field(reason.y);
-    field(reason.x);
-    field(reason.address);
-    field(reason.prime)
+fn show_reason<R: Print>(rt: &R, reason: Reason) {
+    number(rt, reason.number);
+    field(rt, reason.y);
+    field(rt, reason.x);
+    field(rt, reason.address);
+    field(rt, reason.prime)
 }
 
 fn moved_bytes(t: Triple, back: bool, block: &mut [u8], marks: &mut [u8]) -> u32 {
@@ -184,7 +184,8 @@ fn list_addresses(t: Triple, list: &mut [u16], size: usize) -> u32
 }
 
 // Makes the call of a row on its numbers, which a walker holds, and its lists, of these sizes; prints its number and its fields.
-pub fn make_call(
+pub fn make_call<R: Print>(
+    rt: &R,
     row: u32,
     w: Walker,
     list: &mut List,
@@ -199,20 +200,20 @@ pub fn make_call(
     let f1 = t.f1;
     let f2 = t.f2;
     match row {
-        1 => number(qpp::accept(k, f1, f2)),
-        2 => show_value(qpp::address(k, f1, f2, w.at)),
-        3 => show_value(qpp::reciprocal(k, f1, f2)),
-        4 => show_value(qpp::spread(k, f1, f2)),
-        5 => show_inverse(qpp::inverse(k, f1, f2)),
-        6 => show_arp(list_shifts(t, list, size)),
-        7 => number(list_addresses(t, list, size)),
-        8 => show_start(qpp::walker_start(k, f1, f2)),
-        9 => show_step(w.step()),
-        10 => number(move_bytes(t, false, list, size, scratch, count)),
-        11 => number(move_bytes(t, true, list, size, scratch, count)),
-        12 => number(move_symbols(t, false, list, size, scratch, count)),
-        13 => number(move_symbols(t, true, list, size, scratch, count)),
-        14 => show_reason(qpp::explain(k, f1, f2)),
+        1 => number(rt, qpp::accept(k, f1, f2)),
+        2 => show_value(rt, qpp::address(k, f1, f2, w.at)),
+        3 => show_value(rt, qpp::reciprocal(k, f1, f2)),
+        4 => show_value(rt, qpp::spread(k, f1, f2)),
+        5 => show_inverse(rt, qpp::inverse(k, f1, f2)),
+        6 => show_arp(rt, list_shifts(t, list, size)),
+        7 => number(rt, list_addresses(t, list, size)),
+        8 => show_start(rt, qpp::walker_start(k, f1, f2)),
+        9 => show_step(rt, w.step()),
+        10 => number(rt, move_bytes(t, false, list, size, scratch, count)),
+        11 => number(rt, move_bytes(t, true, list, size, scratch, count)),
+        12 => number(rt, move_symbols(t, false, list, size, scratch, count)),
+        13 => number(rt, move_symbols(t, true, list, size, scratch, count)),
+        14 => show_reason(rt, qpp::explain(k, f1, f2)),
         _ => {}
     }
 }

@@ -10,14 +10,14 @@ use asking::words::{Reader, take_number};
 use asking::{crc, widths, words};
 use turbo::Row;
 
-fn show_row(row: Row) {
-    number(row.number);
-    field(row.f1);
-    field(row.f2)
+fn show_row<R: Print>(rt: &R, row: Row) {
+    number(rt, row.number);
+    field(rt, row.f1);
+    field(rt, row.f2)
 }
 
 // The row of a length.
-pub fn answer_row(line: &[u8], call: Reader)
+pub fn answer_row<R: Print>(rt: &R, line: &[u8], call: Reader)
     requires { call.end ≤ length line.now }
 {
     let k = take_number(line, call);
@@ -25,9 +25,9 @@ pub fn answer_row(line: &[u8], call: Reader)
     rest.n = 0;
     let last = ended(line, rest);
     if last.fault != words::FINE {
-        return complain(last);
+        return complain(rt, last);
     }
-    show_row(turbo::row_of(k.n))
+    show_row(rt, turbo::row_of(k.n))
 }
 
 // How many entries the four lists of a call have, and the last word.
@@ -95,17 +95,17 @@ fn encode(k: u32, s: Sizes, input: &List, d0: &mut List, d1: &mut List, d2: &mut
 }
 
 // A list of this size, or the checksum of it.
-fn show_stream(kind: u8, list: &List, size: usize)
+fn show_stream<R: Print>(rt: &R, kind: u8, list: &List, size: usize)
     requires { size ≤ 8200 }
 {
     if kind == calls::ENCODER {
-        return show(b'b', list, size);
+        return show(rt, b'b', list, size);
     }
-    field(crc::of_list(list, size))
+    field(rt, crc::of_list(list, size))
 }
 
 // The streams of a block.
-pub fn answer(line: &[u8], call: Reader)
+pub fn answer<R: Print>(rt: &R, line: &[u8], call: Reader)
     requires { call.end ≤ length line.now }
 {
     let mut input = [0u16; 8200];
@@ -115,10 +115,10 @@ pub fn answer(line: &[u8], call: Reader)
     let k = take_number(line, call);
     let s = read_lists(line, k, &mut input, &mut d0, &mut d1, &mut d2);
     if s.last.fault != words::FINE {
-        return complain(s.last);
+        return complain(rt, s.last);
     }
-    number(encode(k.n, s, &input, &mut d0, &mut d1, &mut d2));
-    show_stream(call.kind, &d0, s.d0);
-    show_stream(call.kind, &d1, s.d1);
-    show_stream(call.kind, &d2, s.d2)
+    number(rt, encode(k.n, s, &input, &mut d0, &mut d1, &mut d2));
+    show_stream(rt, call.kind, &d0, s.d0);
+    show_stream(rt, call.kind, &d1, s.d1);
+    show_stream(rt, call.kind, &d2, s.d2)
 }

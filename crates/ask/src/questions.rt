@@ -65,53 +65,53 @@ fn read_question(line: &[u8], call: Reader, list: &mut List, scratch: &mut List)
     }
 }
 
-pub fn complain(r: Reader) {
-    say(b"? word ");
-    number(r.word as u32);
+pub fn complain<R: Print>(rt: &R, r: Reader) {
+    say(rt, b"? word ");
+    number(rt, r.word as u32);
     let fault = r.fault;
     match fault {
-        words::NO_CALL => say(b": no such call"),
-        words::NO_NUMBER => say(b": no number"),
-        words::LARGE_NUMBER => say(b": a number above 4294967295"),
-        words::NO_LIST => say(b": no list"),
-        words::OUT_OF_RANGE => say(b": an entry out of range"),
-        words::LONG_LIST => say(b": a list of more than 8200 entries"),
-        words::FEW_WORDS => say(b": too few words"),
-        _ => say(b": too many words"),
+        words::NO_CALL => say(rt, b": no such call"),
+        words::NO_NUMBER => say(rt, b": no number"),
+        words::LARGE_NUMBER => say(rt, b": a number above 4294967295"),
+        words::NO_LIST => say(rt, b": no list"),
+        words::OUT_OF_RANGE => say(rt, b": an entry out of range"),
+        words::LONG_LIST => say(rt, b": a list of more than 8200 entries"),
+        words::FEW_WORDS => say(rt, b": too few words"),
+        _ => say(rt, b": too many words"),
     }
 }
 
 // Makes the call, and shows the lists after it.
-fn reply(q: Question, list: &mut List, scratch: &mut List)
+fn reply<R: Print>(rt: &R, q: Question, list: &mut List, scratch: &mut List)
     requires { (q.list.n ≤ 8200) × (q.last.n ≤ 8200) }
 {
     let size = q.list.n as usize;
     let count = q.last.n as usize;
-    calls::make_call(q.row, q.w, list, size, scratch, count);
-    show(q.list.kind, list, size);
-    show(q.last.kind, scratch, count)
+    calls::make_call(rt, q.row, q.w, list, size, scratch, count);
+    show(rt, q.list.kind, list, size);
+    show(rt, q.last.kind, scratch, count)
 }
 
 // A call of the interleaver.
-fn answer_shuffle(line: &[u8], call: Reader)
+fn answer_shuffle<R: Print>(rt: &R, line: &[u8], call: Reader)
     requires { call.end ≤ length line.now }
 {
     let mut list = [0u16; 8200];
     let mut scratch = [0u16; 8200];
     let q = read_question(line, call, &mut list, &mut scratch);
     if q.last.fault != words::FINE {
-        return complain(q.last);
+        return complain(rt, q.last);
     }
-    reply(q, &mut list, &mut scratch)
+    reply(rt, q, &mut list, &mut scratch)
 }
 
 // Answers a line that comes without its newline.
-pub fn answer(line: &[u8]) {
+pub fn answer<R: Print>(rt: &R, line: &[u8]) {
     let call = calls::take_call(line);
     let kind = call.kind;
     match kind {
-        calls::LENGTH => encoding::answer_row(line, call),
-        calls::ENCODER | calls::ENCODER_CRC => encoding::answer(line, call),
-        _ => answer_shuffle(line, call),
+        calls::LENGTH => encoding::answer_row(rt, line, call),
+        calls::ENCODER | calls::ENCODER_CRC => encoding::answer(rt, line, call),
+        _ => answer_shuffle(rt, line, call),
     }
 }

@@ -6,7 +6,7 @@ use Prim.Native.Nat.{ℕ}
 use Rattle.triples.specs.declared.Triple.{Triple}
 use Rattle.triples.specs.Shuffles.{quadratic}
 use Rattle.polynomials.proofs.Inverses.{inverted_one}
-use Rattle.arp.proofs.ArpForms.{arp_numbers_one}
+use Rattle.arp_forms.proofs.ArpForms.{arp_numbers_one}
 use Rattle.spreading.proofs.Spreads.{spread_one}
 use Rattle.refusals.specs.Refusals.{Acceptance}
 use Rattle.refusals.proofs.Acceptance.{acceptance_one}

@@ -3,7 +3,7 @@ use Rattle.std.specs.Prelude.{◌≡◌, true, false, ◌≢◌, List, [], ◌�
 use Rattle.triples.specs.declared.Triple.{Triple}
 use Rattle.triples.specs.Shuffles.{triple, f, quadratic}
 use Rattle.polynomials.specs.Inverses.{Inverted}
-use Rattle.arp.specs.Arp.{ArpNumbers}
+use Rattle.arp_forms.specs.Arp.{ArpNumbers}
 use Rattle.spreading.specs.Spreads.{Spread}
 use Rattle.refusals.specs.Refusals.{Acceptance}
 use Rattle.cards.specs.declared.reading.Reading.{Reading}

@@ -24,7 +24,7 @@ fn facts_of(t: Triple) -> Facts
     ensures { FactsOf t result }
 {
     let inverse = inverting::inverse(t);
-    let form = arp::form_of(t);
+    let form = arp_forms::form_of(t);
     let spread = spreading::spread(t);
     let a = inverse.a;
     Facts {

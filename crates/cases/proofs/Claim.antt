@@ -14,9 +14,9 @@ use Rattle.polynomials.proofs.Instances.{inverse_test, inverted_by_test}
 use Rattle.triples.specs.declared.Triple.{Triple}
 use Rattle.triples.specs.Shuffles.{triple, f, quadratic}
 use Rattle.numbers.proofs.Lists.{written_front}
-use Rattle.arp.specs.Arp.{shift, Period}
-use Rattle.arp.proofs.Periods.{period_double}
-use Rattle.arp.proofs.ArpForms.{arp_form, period_one}
+use Rattle.arp_forms.specs.Arp.{shift, Period}
+use Rattle.arp_forms.proofs.Periods.{period_double}
+use Rattle.arp_forms.proofs.ArpForms.{arp_form, period_one}
 use Rattle.refusals.specs.Refusals.{Acceptance}
 use Rattle.refusals.proofs.Answers.{answer_late}
 use Rattle.refusals.proofs.Acceptance.{accepted}

@@ -4,7 +4,7 @@ use mathlib.Core.List.{List}
 use Prim.Native.Nat.{ℕ, ◌%◌}
 use Rattle.numbers.proofs.Reciprocals.{reciprocal_one}
 use Rattle.polynomials.proofs.Inverses.{inverted_one}
-use Rattle.arp.proofs.ArpForms.{arp_one}
+use Rattle.arp_forms.proofs.ArpForms.{arp_one}
 use Rattle.spreading.proofs.Spreads.{spread_one}
 use Rattle.numbers.proofs.Lists.{written_one}
 use Rattle.permuting.specs.Formulas.{Formula}

@@ -7,7 +7,7 @@ use Rattle.triples.specs.declared.Triple.{Triple}
 use Rattle.triples.specs.Shuffles.{f, quadratic, odd_form}
 use Rattle.numbers.specs.Lists.{Written}
 use Rattle.polynomials.specs.Inverses.{Inverted}
-use Rattle.arp.specs.Arp.{Period, Arp}
+use Rattle.arp_forms.specs.Arp.{Period, Arp}
 use Rattle.spreading.specs.Spreads.{Spread}
 use Rattle.explaining.specs.Reasons.{FirstCollision, LeastFailing}
 use Rattle.refusals.specs.Refusals.{Answer, range_tests, shuffle_tests, block_tests, no_list, nothing_to_explain}

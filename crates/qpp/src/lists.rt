@@ -48,12 +48,12 @@ pub fn qpp_arp(k: u32, f1: u32, f2: u32, list: &mut [u16]) -> ArpForm
     if number != DONE {
         return formless(number);
     }
-    let form = arp::form_of(t);
+    let form = arp_forms::form_of(t);
     let number = refusals::entries(form.q as usize, list.len());
     if number != DONE {
         return formless(number);
     }
-    arp::shifts(form, list);
+    arp_forms::shifts(form, list);
     ArpForm {
         number: DONE,
         p: form.p,

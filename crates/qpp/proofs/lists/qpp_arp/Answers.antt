@@ -5,8 +5,8 @@ use Prim.Native.Nat.{ℕ}
 use mathlib.Core.Path.{◌≡◌, refl}
 use mathlib.Core.List.{[], ◌∷◌}
 use Rattle.triples.specs.Shuffles.{odd_form}
-use Rattle.arp.specs.Arp.{Period, ArpNumbers}
-use Rattle.arp.proofs.ArpForms.{arp_form, period_one}
+use Rattle.arp_forms.specs.Arp.{Period, ArpNumbers}
+use Rattle.arp_forms.proofs.ArpForms.{arp_form, period_one}
 use Rattle.refusals.specs.Refusals.{First, no_list}
 use Rattle.refusals.proofs.Answers.{refuse_early, refuse_late, answer_late}
 use Rattle.refusals.proofs.Acceptance.{accepted}

@@ -2,8 +2,8 @@
 use Rattle.std.specs.Prelude.{◌≡◌, ◌≤◌}
 use Rattle.triples.specs.declared.Triple.{Triple}
 use Rattle.triples.specs.Shuffles.{InRange, odd_form}
-use Rattle.arp.specs.declared.Form.{Form}
-use Rattle.arp.specs.Arp.{ArpNumbers}
+use Rattle.arp_forms.specs.declared.Form.{Form}
+use Rattle.arp_forms.specs.Arp.{ArpNumbers}
 
 pub record FormOf (t : Triple) (r : Form) : Type 0 where
   pub numbers : ArpNumbers t r.p r.q

@@ -3,8 +3,8 @@ use mathlib.Core.Path.{refl}
 use Prim.Native.Nat.{◌/◌}
 use native.Mathlib.Nat.{div-le_self, le_of_dvd, mul-le-mul, pos_of_dvd_of_pos}
 use native.Mathlib.Omega.{arith}
-use Rattle.arp.proofs.Periods.{period_even, period_least, period_double}
-use Rattle.arp.proofs.period.Goals as goal
+use Rattle.arp_forms.proofs.Periods.{period_even, period_least, period_double}
+use Rattle.arp_forms.proofs.period.Goals as goal
 
 pub nonzero_div-q : goal.nonzero_div-q
 nonzero_div-q c = pos_of_dvd_of_pos c.gcd.ensures.left (omega arith)

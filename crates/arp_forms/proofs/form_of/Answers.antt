@@ -3,8 +3,8 @@ use mathlib.Core.Path.{ap, subst}
 use native.Mathlib.Omega.{arith}
 use Rattle.triples.specs.declared.Triple.{Triple}
 use Rattle.acceptance.proofs.OddForm.{odd_form_lem, in_form}
-use Rattle.arp.specs.Arp.{Period}
-use Rattle.arp.proofs.form_of.Goals as goal
+use Rattle.arp_forms.specs.Arp.{Period}
+use Rattle.arp_forms.proofs.form_of.Goals as goal
 
 pub period-requires : goal.period-requires
 period-requires c = in_form c.requires c.odd_form-odd.ensures

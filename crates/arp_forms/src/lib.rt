@@ -4,8 +4,8 @@
 ghost use Rattle.std.specs.Prelude.{◌≤◌, length};
 ghost use Rattle.triples.specs.Shuffles.{InRange};
 ghost use Rattle.numbers.specs.Lists.{Written};
-ghost use Rattle.arp.specs.Arp.{shift, Period};
-ghost use Rattle.arp.specs.Forms.{FormOf};
+ghost use Rattle.arp_forms.specs.Arp.{shift, Period};
+ghost use Rattle.arp_forms.specs.Forms.{FormOf};
 
 use triples::Triple;
 

@@ -1,7 +1,7 @@
 -- What was filled in are the addresses of the odd form without its first coefficient, which are the shifts.
 use Rattle.numbers.proofs.Lists.{written_same}
-use Rattle.arp.proofs.ArpForms.{without_first}
-use Rattle.arp.proofs.shifts.Goals as goal
+use Rattle.arp_forms.proofs.ArpForms.{without_first}
+use Rattle.arp_forms.proofs.shifts.Goals as goal
 
 pub returns : goal.returns
 returns c =

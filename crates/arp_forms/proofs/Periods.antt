@@ -9,7 +9,7 @@ use Rattle.numbers.specs.Divisors.{IsGcd}
 use Rattle.numbers.proofs.Divisors.{dvd_make, quotient, gcd_exact}
 use Rattle.numbers.proofs.Congruences.{cong_eq, cong_same, same_cong, cong_zero, zero_cong, cong_add, cong_cancel, ◌⨾◌}
 use Rattle.triples.specs.declared.Triple.{Triple}
-use Rattle.arp.specs.Arp.{Repeats, Divided, Period}
+use Rattle.arp_forms.specs.Arp.{Repeats, Divided, Period}
 
 divided_repeats : (t : Triple) (q : ℕ) → Divided t q → Repeats t q
 divided_repeats t q d i =

@@ -12,7 +12,7 @@ use Rattle.triples.specs.Shuffles.{triple, f, Shuffle, odd_form}
 use Rattle.numbers.specs.Lists.{Written}
 use Rattle.numbers.proofs.Lists.{written_one}
 use Rattle.acceptance.proofs.Rule.{OddUnit, odd_unit}
-use Rattle.arp.specs.Arp.{shift, Repeats, Period, ArpNumbers, Arp}
+use Rattle.arp_forms.specs.Arp.{shift, Repeats, Period, ArpNumbers, Arp}
 
 -- the shifts are the addresses of the triple without its first coefficient
 pub without_first : (t : Triple) (j : ℕ) → f (triple t.k 0 t.f2) j ≡ shift t j
