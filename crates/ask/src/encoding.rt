@@ -31,7 +31,7 @@ pub fn answer_row<R: Print>(rt: &R, line: &[u8], call: Reader)
 }
 
 // How many entries the four lists of a call have, and the last word.
-#[derive(Drop)]
+#[derive(Clone, Copy)]
 struct Sizes {
     input: usize,
     d0: usize,

@@ -8,7 +8,7 @@ mod questions;
 use std::io::Read;
 
 // How many bytes are kept of the line that has not ended, and whether the answers so far were written.
-#[derive(Drop)]
+#[derive(Clone, Copy)]
 struct Progress {
     size: usize,
     going: bool,
@@ -18,9 +18,7 @@ struct Progress {
 // newline.
 fn answer<R: Print>(rt: &R, line: &[u8], size: usize) -> bool {
     if size >= line.len() {
-        return rt
-            .write_all(b"? a line of more than 65535 bytes\n")
-            .is_ok();
+        return rt.write_all(b"? a line of more than 65535 bytes\n").is_ok();
     }
     questions::answer(rt, &line[0..size]);
     rt.write_all(b"\n").is_ok()

@@ -33,7 +33,7 @@ pub fn ended(line: &[u8], r: Reader) -> Reader
 }
 
 // A call by its row, its numbers, its list, and its scratch as the last word.
-#[derive(Drop)]
+#[derive(Clone, Copy)]
 struct Question {
     row: u32,
     w: Walker,

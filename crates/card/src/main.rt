@@ -1,15 +1,17 @@
 // The card program: reads standard input to its end, and writes a card for each line to standard output.
 #![tactic(auto)]
+
 ghost use Rattle.std.specs.Prelude.{◌+◌, ◌≤◌, length};
 ghost use Rattle.cards.specs.Cards.{room};
 
 use cards::Line;
+use std::io::Read;
 
 // Writes the cards at the start of the buffer, and answers whether all of them were written.
-fn write_cards(out: &[u8], end: usize) -> bool
+fn write_cards<R: Print>(rt: &R, out: &[u8], end: usize) -> bool
     requires { end ≤ length out.now }
 {
-    io::write_all(libc::STDOUT_FILENO, &out[..end])
+    rt.write_all(&out[..end]).is_ok()
 }
 
 // Whether to go on, and how many bytes at the start of the buffer are not written yet.
@@ -20,7 +22,7 @@ struct Room {
 }
 
 // Empties a buffer that may have no room for another card.
-fn make_room(out: &[u8], end: usize) -> Room
+fn make_room<R: Print>(rt: &R, out: &[u8], end: usize) -> Room
     requires { (end ≤ length out.now) × (room ≤ length out.now) }
     ensures { result.end + room ≤ length out.now }
 {
@@ -28,7 +30,7 @@ fn make_room(out: &[u8], end: usize) -> Room
         return Room { going: true, end };
     }
     Room {
-        going: write_cards(out, end),
+        going: write_cards(rt, out, end),
         end: 0,
     }
 }
@@ -41,7 +43,7 @@ struct Progress {
 }
 
 // Takes a whole piece of the input.
-fn take(piece: &[u8], unended: Line, out: &mut [u8], at: usize) -> Progress
+fn take<R: Print>(rt: &R, piece: &[u8], unended: Line, out: &mut [u8], at: usize) -> Progress
     requires { (at ≤ length out.old) × (room ≤ length out.old) }
     ensures { result.end ≤ length out.old }
 {
@@ -49,7 +51,7 @@ fn take(piece: &[u8], unended: Line, out: &mut [u8], at: usize) -> Progress
     let mut end = at;
     let mut done = 0;
     while done < piece.len() {
-        let room = make_room(out, end);
+        let room = make_room(rt, out, end);
         if !room.going {
             return Progress {
                 going: false,
@@ -70,15 +72,15 @@ fn take(piece: &[u8], unended: Line, out: &mut [u8], at: usize) -> Progress
 }
 
 // Writes what is left at the end of the input, and answers whether all of it was written.
-fn finish(line: Line, out: &mut [u8], at: usize) -> bool
+fn finish<R: Print>(rt: &R, line: Line, out: &mut [u8], at: usize) -> bool
     requires { (at ≤ length out.old) × (room ≤ length out.old) }
 {
-    let room = make_room(out, at);
+    let room = make_room(rt, out, at);
     if !room.going {
         return false;
     }
     let end = cards::finish(line, out, room.end);
-    write_cards(out, end)
+    write_cards(rt, out, end)
 }
 
 #[derive(Drop)]
@@ -89,25 +91,23 @@ struct Failures {
 
 // A proved loop has to end, and nothing says that the input does. So the loop counts its turns down, from a
 // number that no run uses up.
-fn run(piece: &mut [u8], out: &mut [u8]) -> Failures
+fn run<R: Print, I: Read>(rt: &R, input: &mut I, piece: &mut [u8], out: &mut [u8]) -> Failures
     requires { room ≤ length out.old }
 {
     let mut line = Line::new();
     let mut end = 0;
     let mut turns = u64::MAX;
     while turns > 0 {
-        let got = libc::read(libc::STDIN_FILENO, piece);
-        if got < 0 {
+        let Ok(size) = input.read(piece) else {
             break;
-        }
-        let size = io::count(got, piece);
+        };
         if size == 0 {
             return Failures {
                 reading: false,
-                writing: !finish(line, out, end),
+                writing: !finish(rt, line, out, end),
             };
         }
-        let progress = take(&piece[..size], line, out, end);
+        let progress = take(rt, &piece[..size], line, out, end);
         if !progress.going {
             return Failures {
                 reading: false,
@@ -121,28 +121,22 @@ fn run(piece: &mut [u8], out: &mut [u8]) -> Failures
     // The input did not come to its end, so nobody knows the rest of the last line, and it gets no card.
     Failures {
         reading: true,
-        writing: !write_cards(out, end),
+        writing: !write_cards(rt, out, end),
     }
 }
 
 // A program has no exit status: whoever calls it learns of a failure from standard error alone.
-fn tell(failures: Failures) {
+fn tell<R: Eprint>(rt: &R, failures: Failures) {
     if failures.reading {
-        io::write_all(
-            libc::STDERR_FILENO,
-            b"card: standard input cannot be read\n",
-        );
+        let _ = rt.eprintln("card: standard input cannot be read");
     }
     if failures.writing {
-        io::write_all(
-            libc::STDERR_FILENO,
-            b"card: standard output cannot be written\n",
-        );
+        let _ = rt.eprintln("card: standard output cannot be written");
     }
 }
 
-fn main() {
-    let mut piece = io::large_buffer();
-    let mut out = io::large_buffer();
-    tell(run(&mut piece, &mut out));
+fn main(rt: HostRuntime) {
+    let mut piece = [0u8; 65536];
+    let mut out = [0u8; 65536];
+    tell(&rt, run(&rt, &mut rt.stdin(), &mut piece, &mut out));
 }
