@@ -1,5 +1,5 @@
 -- `run`'s loop: the cards end inside the buffer. The turns left fall, so it ends.
-use Rattle.std.proofs.Common.{◌≤◌, ◌≡◌, length}
+use Rattle.std.proofs.Common.{◌≤◌, length}
 use Rattle.card.proofs.run.Given as goal
 
 abbrev pub invariant-loop-turns : goal.invariant-loop-turns

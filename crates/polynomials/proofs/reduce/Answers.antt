@@ -1,5 +1,4 @@
 use mathlib.Core.Path.{sym, subst}
-use mathlib.Core.Logic.{⊎_elim}
 use mathlib.Core.List.{List}
 use Prim.Native.Nat.{ℕ, ◌-◌, ◌<◌}
 use native.Mathlib.Nat.{mod-le, mod-lt}

@@ -1,6 +1,5 @@
 -- The invariant, `Reducing`: the places past n are inside the limits, the values are the same modulo k, and 32 bits have room for the sums to
 -- come. The measure is n, and it falls by one. At 0 all is done, since the constant is below k from the start.
-use Prim.Native.Nat.{◌-◌}
 use Rattle.polynomials.proofs.Reductions.{Reducing}
 use Rattle.polynomials.proofs.reduce.Given as goal
 

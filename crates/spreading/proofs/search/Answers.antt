@@ -1,5 +1,4 @@
 use mathlib.Core.Path.{refl}
-use Prim.Native.Nat.{◌-◌}
 use native.Mathlib.Omega.{arith}
 use Rattle.spreading.proofs.Ascending.{search_start, search_step, search_near, search_met}
 use Rattle.spreading.proofs.Tables.{on_start, on_room, on_more, on_addresses, on_closest}

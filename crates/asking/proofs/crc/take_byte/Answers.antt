@@ -1,4 +1,4 @@
-use Rattle.std.proofs.Common.{◌-◌, arith}
+use Rattle.std.proofs.Common.{arith}
 use Rattle.asking.proofs.crc.take_byte.Goals as goal
 
 pub loop-init : goal.loop-init

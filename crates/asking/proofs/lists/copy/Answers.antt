@@ -1,4 +1,4 @@
-use Rattle.std.proofs.Common.{◌-◌, arith}
+use Rattle.std.proofs.Common.{arith}
 use Rattle.asking.proofs.lists.copy.Goals as goal
 
 pub loop-i-init : goal.loop-i-init

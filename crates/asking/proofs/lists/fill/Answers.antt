@@ -1,4 +1,4 @@
-use Rattle.std.proofs.Common.{◌-◌, arith}
+use Rattle.std.proofs.Common.{arith}
 use Rattle.asking.proofs.lists.fill.Goals as goal
 
 pub loop-at-init : goal.loop-at-init

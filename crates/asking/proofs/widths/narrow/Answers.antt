@@ -1,4 +1,4 @@
-use Rattle.std.proofs.Common.{◌-◌, arith}
+use Rattle.std.proofs.Common.{arith}
 use Rattle.asking.proofs.widths.narrow.Goals as goal
 
 pub offset_bounds-list-i : goal.offset_bounds-list-i

@@ -1,4 +1,4 @@
-use Rattle.std.proofs.Common.{◌-◌, arith}
+use Rattle.std.proofs.Common.{arith}
 use Rattle.asking.proofs.words.past_spaces.Goals as goal
 
 pub loop-at-init : goal.loop-at-init

@@ -1,4 +1,4 @@
-use Rattle.std.proofs.Common.{◌-◌, arith}
+use Rattle.std.proofs.Common.{arith}
 use Rattle.asking.proofs.words.value_of.Goals as goal
 
 pub returns-then-text-eq0 : goal.returns-then-text-eq0

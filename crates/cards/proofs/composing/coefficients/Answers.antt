@@ -1,4 +1,3 @@
-use Prim.Native.Nat.{◌-◌}
 use native.Mathlib.Omega.{arith}
 use Rattle.cards.proofs.Buffers.{appended_length, fields_start, fields_turn, fields_whole}
 use Rattle.cards.proofs.composing.coefficients.Goals as goal

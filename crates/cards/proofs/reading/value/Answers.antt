@@ -1,4 +1,3 @@
-use Prim.Native.Nat.{◌-◌}
 use native.Mathlib.Omega.{arith}
 use Rattle.cards.proofs.Numerals.{digits_at, value_small, value_turn, value_end}
 use Rattle.cards.proofs.reading.value.Goals as goal

@@ -1,4 +1,3 @@
-use Prim.Native.Nat.{◌-◌}
 use native.Mathlib.Omega.{arith}
 use Rattle.cards.proofs.Buffers.{appended_length, appended_start, appended_turn, appended_whole}
 use Rattle.cards.proofs.writing.word.Goals as goal

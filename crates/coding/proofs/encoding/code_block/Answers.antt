@@ -1,4 +1,3 @@
-use Prim.Native.Nat.{◌-◌}
 use native.Mathlib.Omega.{arith}
 use Rattle.coding.proofs.Passes.{pass_start, pass_step, pass_end}
 use Rattle.coding.proofs.encoding.code_block.Goals as goal

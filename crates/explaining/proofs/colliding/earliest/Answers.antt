@@ -1,5 +1,4 @@
 use mathlib.Core.Path.{sym, ◌∙◌}
-use Prim.Native.Nat.{◌-◌}
 use native.Mathlib.Omega.{arith}
 use Rattle.explaining.specs.Searches.{along}
 use Rattle.explaining.proofs.Collisions.{rising_start, rising_step, rising_found}

@@ -1,5 +1,4 @@
 use mathlib.Core.Path.{refl, ◌∙◌}
-use Prim.Native.Nat.{◌-◌}
 use native.Mathlib.Omega.{arith}
 use Rattle.permuting.proofs.Bitmap.{marked_length}
 use Rattle.explaining.specs.Searches.{along}

@@ -1,4 +1,3 @@
-use Prim.Native.Nat.{◌-◌}
 use native.Mathlib.Omega.{arith}
 use Rattle.inverting.proofs.Growth.{grown_start, grown_turn, grown_full, grown_short, minus, product_le}
 use Rattle.inverting.proofs.terms.series.Goals as goal

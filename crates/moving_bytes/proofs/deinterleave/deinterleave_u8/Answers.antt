@@ -1,5 +1,4 @@
 use mathlib.Core.Path.{refl}
-use Prim.Native.Nat.{◌-◌}
 use native.Mathlib.Omega.{arith}
 use Rattle.permuting.proofs.Traversal.{between_begin, cycle_enter, cycle_fewer, deinterleave_on, deinterleave_back}
 use Rattle.moving.proofs.Returns.{moved}

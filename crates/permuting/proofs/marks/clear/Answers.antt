@@ -2,7 +2,7 @@ use borrow.Author.Rules.{rules}
 use borrow.Author.Fill.{fill_more}
 use mathlib.Core.Path.{◌≡◌, refl, ap, ◌∙◌}
 use mathlib.Core.List.{List}
-use Prim.Native.Nat.{ℕ, ◌<◌, ◌-◌}
+use Prim.Native.Nat.{ℕ, ◌<◌}
 use native.Mathlib.Omega.{arith}
 use lib.ListN.{length, set}
 use Rattle.permuting.proofs.marks.clear.Goals as goal

@@ -1,5 +1,4 @@
 use mathlib.Core.Path.{refl}
-use Prim.Native.Nat.{◌-◌}
 use native.Mathlib.Omega.{arith}
 use Rattle.refusals.proofs.Largest.{searched_none, searched_more, searched_all}
 use Rattle.refusals.proofs.binary.largest.Goals as goal

@@ -1,4 +1,3 @@
-use Prim.Native.Nat.{◌-◌}
 use native.Mathlib.Omega.{arith}
 use Rattle.triples.proofs.Rows.{listing_start, listing_step, listing_end}
 use Rattle.triples.proofs.listing.fill.Goals as goal
