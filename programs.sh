@@ -17,29 +17,20 @@ here=$(cd "$(dirname "$0")" && pwd -P)
 program=$here/target/bin/$name
 log=$here/target/$name.log
 
-# The crates that make up the program. The toolchain's own libraries have no line in crates.txt.
-count_crates() {
+# The crates that make up the program, each after those that it uses. The toolchain's own libraries have no line in crates.txt.
+name_crates() {
     awk -v program="$name" '
         function reach(name,    needed, i) {
             if (!(name in needs) || name in reached) return
             reached[name]
-            count++
             for (i = split(needs[name], needed); i > 0; i--) reach(needed[i])
+            print name
         }
         { sub(/#.*/, ""); sub(/:/, " "); name = $1; $1 = ""; needs[name] = $0 }
-        END { reach(program); print count }' "$here/crates.txt"
+        END { reach(program) }' "$here/crates.txt"
 }
 
 say() { echo "$name: $1" >&2 || true; } # the program does not wait for somebody to listen
-
-follow() { # ALL: a line for each line of rt that says of a crate that it is proved
-    local proved=0 line
-    while IFS= read -r line; do
-        [[ $line =~ ^rt:\ ([a-z0-9_]+)\ proved\ (\(.*\))$ ]] || continue
-        proved=$((proved + 1))
-        say "proved ${BASH_REMATCH[1]}, $proved of $1 ${BASH_REMATCH[2]}"
-    done
-}
 
 need_rt() {
     command -v rt >/dev/null && return
@@ -47,14 +38,33 @@ need_rt() {
     exit 1
 }
 
+# Proves the crates one after the other, and says of each that it is proved. The program is the last; the toolchain builds it where it
+# runs it, so it is run once on nothing.
+prove_crates() { # ALL CRATE...
+    local all=$1 proved=0 crate built=$here/crates/$name/out/$name
+    shift
+    for crate in "$@"; do
+        if [ "$crate" = "$name" ]; then
+            (cd "$here/crates/$crate" && rt run </dev/null >/dev/null) 2>>"$log" && [ -x "$built" ] || return
+        else
+            (cd "$here/crates/$crate" && rt lib </dev/null) >>"$log" 2>&1 || return
+        fi
+        proved=$((proved + 1))
+        say "proved $crate, $proved of $all"
+    done
+    mkdir -p "$(dirname "$program")"
+    cp "$built" "$program"
+}
+
 prove() {
-    local all began
+    local crates began
     need_rt
-    all=$(count_crates)
+    mapfile -t crates < <(name_crates)
     began=$(date +%s.%N)
-    say "proving the $all crates of the program and building it, which from nothing takes a few minutes"
+    say "proving the ${#crates[@]} crates of the program and building it, which from nothing takes a few minutes"
     mkdir -p "$here/target"
-    if ! (cd "$here" && rt check "$name" 2>&1 </dev/null) | tee "$log" | follow "$all" || [ ! -x "$program" ]; then
+    : >"$log"
+    if ! prove_crates "${#crates[@]}" "${crates[@]}"; then
         tail -n 20 "$log" >&2
         say "the program is not proved and built; target/$name.log has all that rt said"
         exit 1
@@ -63,7 +73,7 @@ prove() {
     touch -d "@$began" "$program"
 }
 
-newer() { find "$here/crates" \( -name '*.rt' -o -name '*.antt' \) -newer "$program" -print -quit; }
+newer() { find "$here/crates" -name out -prune -o \( -name '*.rt' -o -name '*.antt' \) -newer "$program" -print -quit; }
 if [ ! -x "$program" ] || [ -n "$(newer)" ]; then
     prove
 fi

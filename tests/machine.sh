@@ -26,8 +26,8 @@ fi
 
 archive() { # NAME: builds the archive unless it is newer than every source
     local file=$archives/lib$1.a
-    if [ ! -e "$file" ] || [ -n "$(find crates crates.txt -newer "$file" -print -quit)" ]; then
-        rt staticlib "$1" >&2
+    if [ ! -e "$file" ] || [ -n "$(find crates crates.txt -name out -prune -o -type f -newer "$file" -print -quit)" ]; then
+        ./archive "$1" >&2
     fi
 }
 

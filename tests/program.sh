@@ -49,7 +49,7 @@ unwritten="$name: standard output cannot be written"$'\n'
 
 # The program is taken away first, with rt's word that it is proved: so the call must build it, also where the gate has just done so.
 build() { # whoever runs this sees how far a first build is
-    rm -rf "target/bin/$name" "target/stamp/$name"
+    rm -rf "target/bin/$name" "crates/$name/out/$name" "crates/$name/out/$name.stamp"
     "$program" </dev/null >"$out"
     ends "an empty input, and before it the program is built" 0 '' ''
     check "and it is there" test -x "target/bin/$name"

@@ -2,7 +2,7 @@
 # Sourced by tests/card/run: the first call of ./card in a small copy of the repository, with stand-ins for the toolchain,
 # for what it builds and for the name of the machine.
 copy=$room/copy
-mkdir -p "$copy/crates/card/src" "$copy/bin"
+mkdir -p "$copy/crates/"{card/src,lowest,aside,middle} "$copy/bin"
 cp card programs.sh "$copy"
 cat >"$copy/crates.txt" <<'END'
 # three of these make up the program
@@ -25,25 +25,23 @@ machine() { # NAME
 }
 
 machine x86_64
-# It takes whatever standard input it is given, and proves nothing more until its first line has been passed on.
+# It takes whatever standard input it is given, and proves the second crate only if the line of the first has been passed on.
 stand_in bin/rt <<'END'
 #!/usr/bin/env bash
 cat >/dev/null
-[ "$PWD: $*" = "$(dirname "$(dirname "$0")"): check card" ] || exit 2
-echo "rt: lowest proved (unchanged since it was last proved)"
-for _ in {1..100}; do
-    grep -q '1 of 3' "$err" && break
-    sleep 0.1
-done
-grep -q '1 of 3' "$err" || exit 2
-[ -z "${edited-}" ] || { sleep 0.1 && touch "$edited"; }
-echo "logic=proved functions=7"
-echo "rt: middle proved (4 s)"
-echo "rt: card proved (2 s)"
-mkdir -p target/bin
-cp bin/program target/bin/card
-echo "rt: card ran, and wrote what its file 'stdout' has (0 s)"
-echo "rt: ok, 3 crates proved"
+here=${0%/bin/rt}
+case "${PWD#"$here/"}: $*" in
+'crates/lowest: lib') ;;
+'crates/middle: lib') grep -q '1 of 3' "$err" || exit 2 ;;
+'crates/card: run')
+    [ -z "${edited-}" ] || { sleep 0.1 && touch "$edited"; }
+    mkdir -p out
+    cp "$here/bin/program" out/card
+    out/card </dev/null
+    ;;
+*) exit 2 ;;
+esac
+echo "logic=proved functions=7" >&2
 END
 stand_in bin/program <<'END'
 #!/bin/sh
@@ -51,8 +49,8 @@ exec sed 's/^/card of /'
 END
 
 begun=$'card: proving the 3 crates of the program and building it, which from nothing takes a few minutes\n'
-lowest=$'card: proved lowest, 1 of 3 (unchanged since it was last proved)\n'
-told=$begun$lowest$'card: proved middle, 2 of 3 (4 s)\ncard: proved card, 3 of 3 (2 s)\n'
+lowest=$'card: proved lowest, 1 of 3\n'
+told=$begun$lowest$'card: proved middle, 2 of 3\ncard: proved card, 3 of 3\n'
 
 copied --help </dev/null >/dev/null
 copied --frob </dev/null 2>/dev/null
@@ -90,23 +88,23 @@ machine x86_64
 # ---- programs that are not proved
 stand_in bin/rt <<'END'
 #!/bin/sh
-echo "rt: lowest proved (unchanged since it was last proved)"
+case $PWD in */lowest) echo "logic=proved functions=7"; exit ;; esac
 seq 30
-echo "rt: FAILED: middle" >&2
+echo "logic=not-proved" >&2
 exit 1
 END
 unproved=$'card: the program is not proved and built; target/card.log has all that rt said\n'
-last=$(seq 12 30)$'\nrt: FAILED: middle\n'
+last=$(seq 12 30)$'\nlogic=not-proved\n'
 touch "$source"
 copied </dev/null >"$out" 2>"$err"
 ends "a proof that fails: the last lines of rt, and no card of the program that was built before" 1 '' "$begun$lowest$last$unproved"
-rm -r "$copy/target"
+rm -r "$copy/target" "$copy/crates/card/out"
 stand_in bin/rt <<'END'
 #!/bin/sh
-echo "rt: ok, 3 crates proved"
+echo "logic=proved functions=7" >&2
 END
 copied </dev/null >"$out" 2>"$err"
-ends "an rt that builds nothing" 1 '' "$begun"$'rt: ok, 3 crates proved\n'"$unproved"
+ends "an rt that builds nothing" 1 '' "$begun$lowest"$'card: proved middle, 2 of 3\n'"$(yes 'logic=proved functions=7' | head -n 3)"$'\n'"$unproved"
 
 rm "$copy/bin/rt"
 for tool in bash cat dirname find; do ln -s "$(command -v "$tool")" "$copy/bin/$tool"; done

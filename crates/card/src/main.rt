@@ -4,20 +4,23 @@
 ghost use Rattle.std.specs.Prelude.{◌+◌, ◌≤◌, length};
 ghost use Rattle.cards.specs.Cards.{room};
 
+use asking::printing;
+use asking::printing::Written;
 use cards::Line;
 use std::io::Read;
+use std::process::ExitCode;
 
-// Writes the cards at the start of the buffer, and answers whether all of them were written.
-fn write_cards<R: Print>(rt: &R, out: &[u8], end: usize) -> bool
+// Writes the cards at the start of the buffer, and answers how that went.
+fn write_cards<R: Print>(rt: &R, out: &[u8], end: usize) -> Written
     requires { end ≤ length out.now }
 {
-    rt.write_all(&out[..end]).is_ok()
+    Written::of(rt.write_all(&out[..end]))
 }
 
-// Whether to go on, and how many bytes at the start of the buffer are not written yet.
+// How the last write went, and how many bytes at the start of the buffer are not written yet.
 #[derive(Drop)]
 struct Room {
-    going: bool,
+    last: Written,
     end: usize,
 }
 
@@ -27,17 +30,20 @@ fn make_room<R: Print>(rt: &R, out: &[u8], end: usize) -> Room
     ensures { result.end + room ≤ length out.now }
 {
     if out.len() - end >= cards::ROOM {
-        return Room { going: true, end };
+        return Room {
+            last: Written::Whole,
+            end,
+        };
     }
     Room {
-        going: write_cards(rt, out, end),
+        last: write_cards(rt, out, end),
         end: 0,
     }
 }
 
 #[derive(Drop)]
 struct Progress {
-    going: bool,
+    last: Written,
     line: Line,
     end: usize,
 }
@@ -52,9 +58,9 @@ fn take<R: Print>(rt: &R, piece: &[u8], unended: Line, out: &mut [u8], at: usize
     let mut done = 0;
     while done < piece.len() {
         let room = make_room(rt, out, end);
-        if !room.going {
+        if !room.last.is_whole() {
             return Progress {
-                going: false,
+                last: room.last,
                 line,
                 end: 0,
             };
@@ -65,33 +71,33 @@ fn take<R: Print>(rt: &R, piece: &[u8], unended: Line, out: &mut [u8], at: usize
         done += fed.taken;
     }
     Progress {
-        going: true,
+        last: Written::Whole,
         line,
         end,
     }
 }
 
-// Writes what is left at the end of the input, and answers whether all of it was written.
-fn finish<R: Print>(rt: &R, line: Line, out: &mut [u8], at: usize) -> bool
+// Writes what is left at the end of the input, and answers how that went.
+fn finish<R: Print>(rt: &R, line: Line, out: &mut [u8], at: usize) -> Written
     requires { (at ≤ length out.old) × (room ≤ length out.old) }
 {
     let room = make_room(rt, out, at);
-    if !room.going {
-        return false;
+    if !room.last.is_whole() {
+        return room.last;
     }
     let end = cards::finish(line, out, room.end);
     write_cards(rt, out, end)
 }
 
 #[derive(Drop)]
-struct Failures {
-    reading: bool,
-    writing: bool,
+struct Outcome {
+    read: bool,
+    last: Written,
 }
 
 // A proved loop has to end, and nothing says that the input does. So the loop counts its turns down, from a
 // number that no run uses up.
-fn run<R: Print, I: Read>(rt: &R, input: &mut I, piece: &mut [u8], out: &mut [u8]) -> Failures
+fn run<R: Print, I: Read>(rt: &R, input: &mut I, piece: &mut [u8], out: &mut [u8]) -> Outcome
     requires { room ≤ length out.old }
 {
     let mut line = Line::new();
@@ -102,16 +108,16 @@ fn run<R: Print, I: Read>(rt: &R, input: &mut I, piece: &mut [u8], out: &mut [u8
             break;
         };
         if size == 0 {
-            return Failures {
-                reading: false,
-                writing: !finish(rt, line, out, end),
+            return Outcome {
+                read: true,
+                last: finish(rt, line, out, end),
             };
         }
         let progress = take(rt, &piece[..size], line, out, end);
-        if !progress.going {
-            return Failures {
-                reading: false,
-                writing: true,
+        if !progress.last.is_whole() {
+            return Outcome {
+                read: true,
+                last: progress.last,
             };
         }
         line = progress.line;
@@ -119,24 +125,32 @@ fn run<R: Print, I: Read>(rt: &R, input: &mut I, piece: &mut [u8], out: &mut [u8
         turns -= 1;
     }
     // The input did not come to its end, so nobody knows the rest of the last line, and it gets no card.
-    Failures {
-        reading: true,
-        writing: !write_cards(rt, out, end),
+    Outcome {
+        read: false,
+        last: write_cards(rt, out, end),
     }
 }
 
-// A program has no exit status: whoever calls it learns of a failure from standard error alone.
-fn tell<R: Eprint>(rt: &R, failures: Failures) {
-    if failures.reading {
-        let _ = rt.eprintln("card: standard input cannot be read");
-    }
-    if failures.writing {
-        let _ = rt.eprintln("card: standard output cannot be written");
+// Whoever calls the program learns of a failure from standard error alone. Where a pipe was closed nobody is told.
+fn tell<R: Eprint>(rt: &R, outcome: Outcome) {
+    match outcome.last {
+        Written::Closed => return,
+        last => {
+            if !outcome.read {
+                let _ = rt.eprintln("card: standard input cannot be read");
+            }
+            if !last.is_whole() {
+                let _ = rt.eprintln("card: standard output cannot be written");
+            }
+        }
     }
 }
 
-fn main(rt: HostRuntime) {
+fn main(rt: HostRuntime) -> ExitCode {
     let mut piece = [0u8; 65536];
     let mut out = [0u8; 65536];
-    tell(&rt, run(&rt, &mut rt.stdin(), &mut piece, &mut out));
+    let outcome = run(&rt, &mut rt.stdin(), &mut piece, &mut out);
+    let last = outcome.last;
+    tell(&rt, outcome);
+    printing::status(last)
 }

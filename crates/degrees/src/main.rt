@@ -1,7 +1,8 @@
 // Prints the standard's rows that no quadratic undoes, each with the degree of its inverse, and how many they are.
 #![tactic(auto)]
 
-use asking::printing::{field, number, say};
+use asking::printing::{Written, field, number, say, status};
+use std::process::ExitCode;
 use triples::Triple;
 
 fn show<R: Print>(rt: &R, t: Triple, degree: u32) {
@@ -30,10 +31,10 @@ fn judge_all<R: Print>(rt: &R) -> u32 {
     above
 }
 
-fn main(rt: HostRuntime) {
+fn main(rt: HostRuntime) -> ExitCode {
     let above = judge_all(&rt);
     number(&rt, above);
     say(&rt, b" of");
     field(&rt, standard::COUNT as u32);
-    say(&rt, b" rows have D above 2\n")
+    status(Written::of(rt.write_all(b" rows have D above 2\n")))
 }
