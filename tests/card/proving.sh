@@ -98,13 +98,14 @@ last=$(seq 12 30)$'\nlogic=not-proved\n'
 touch "$source"
 copied </dev/null >"$out" 2>"$err"
 ends "a proof that fails: the last lines of rt, and no card of the program that was built before" 1 '' "$begun$lowest$last$unproved"
+proofs=$(yes 'logic=proved functions=7' | head -n 3)$'\n'
 rm -r "$copy/target" "$copy/crates/card/out"
 stand_in bin/rt <<'END'
 #!/bin/sh
 echo "logic=proved functions=7" >&2
 END
 copied </dev/null >"$out" 2>"$err"
-ends "an rt that builds nothing" 1 '' "$begun$lowest"$'card: proved middle, 2 of 3\n'"$(yes 'logic=proved functions=7' | head -n 3)"$'\n'"$unproved"
+ends "an rt that builds nothing" 1 '' "$begun$lowest"$'card: proved middle, 2 of 3\n'"$proofs$unproved"
 
 rm "$copy/bin/rt"
 for tool in bash cat dirname find; do ln -s "$(command -v "$tool")" "$copy/bin/$tool"; done
