@@ -8,7 +8,7 @@
  * its length; the block and the scratch of one call do not overlap. A buffer of length 0 may be NULL: no call reads or
  * writes through it, and each refuses it by its number (4 for a block, 5 for a scratch, 7 for a list) unless an earlier
  * test refuses. qpp_spread takes a little over 16 KiB of stack, qpp_explain a little over 1 KiB, every other call less
- * than half a kilobyte.
+ * than 600 bytes.
  *
  * The odd form of a triple: where K and f1 are even, K/2 is added to f1 and to f2 modulo K. f stays the same.
  */

@@ -1,5 +1,5 @@
 // The interleaver's calls. None trusts its caller: each tests the numbers that it is given, and answers or
-// refuses by a number of the table. Each has its name for C, which include/qpp.h declares, and here a plain one.
+// refuses by a number of the table. Each has a plain name here; `qpp_c` exports it under its name for C.
 #![tactic(auto)]
 
 mod blocks;

@@ -1,4 +1,4 @@
-// The encoder's calls. None trusts its caller, as in `qpp`; include/turbo.h declares their names for C.
+// The encoder's calls. None trusts its caller, as in `qpp`; `turbo_c` exports them under their names for C.
 #![tactic(auto)]
 
 mod encoder;
