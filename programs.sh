@@ -87,7 +87,7 @@ if [ "$(uname -m)" != x86_64 ]; then
     run=("$tools/bin/qemu-x86_64" "$tools/lib/ld-linux-x86-64.so.2" --library-path "$tools/lib" "$program")
 fi
 
-# The program has no exit status: what it says on standard error is a failure.
+# The program ends with 0, or at a closed pipe with 141: what it says on standard error is a failure.
 status=0
 { said=$("${run[@]}" 2>&1 >&3 3>&-); } 3>&1 || status=$?
 if [ -n "$said" ]; then

@@ -26,7 +26,7 @@ fi
 
 archive() { # NAME: builds the archive unless it is newer than every source
     local file=$archives/lib$1.a
-    if [ ! -e "$file" ] || [ -n "$(find crates crates.txt -name out -prune -o -type f -newer "$file" -print -quit)" ]; then
+    if [ ! -e "$file" ] || [ -n "$(find crates crates.txt -name out -prune -o -newer "$file" -print -quit)" ]; then
         ./archive "$1" >&2
     fi
 }
