@@ -1,4 +1,8 @@
 // Words and numbers on standard output. Whether it takes them is seen at the end of each line, by the program.
+ghost use Rattle.std.specs.Prelude.{◌≡◌, ◌≢◌, ◌↔◌, IsOk, IfErr, IsTrue};
+ghost use Rattle.std.specs.IoError.{error_kind};
+ghost use Rattle.std.specs.Process.{exit_status};
+
 use std::io;
 use std::io::ErrorKind;
 use std::process::ExitCode;
@@ -12,7 +16,11 @@ pub enum Written {
 }
 
 impl Written {
-    pub fn of(call: io::Result<()>) -> Written {
+    pub fn of(call: io::Result<()>) -> Written
+        ensures whole { IsOk call → result ≡ Written.Whole }
+        ensures closed { IfErr call (λ e. error_kind e ≡ ErrorKind.BrokenPipe → result ≡ Written.Closed) }
+        ensures failed { IfErr call (λ e. error_kind e ≢ ErrorKind.BrokenPipe → result ≡ Written.Failed) }
+    {
         match call {
             Ok(()) => Written::Whole,
             Err(error) => match error.kind() {
@@ -22,7 +30,9 @@ impl Written {
         }
     }
 
-    pub fn is_whole(self) -> bool {
+    pub fn is_whole(self) -> bool
+        ensures { IsTrue result ↔ (self ≡ Written.Whole) }
+    {
         match self {
             Written::Whole => true,
             _ => false,
@@ -31,7 +41,10 @@ impl Written {
 }
 
 // A program that met a closed pipe ends as the signal of it would end it: with 128 and its number, 13.
-pub fn status(last: Written) -> ExitCode {
+pub fn status(last: Written) -> ExitCode
+    ensures closed { last ≡ Written.Closed → exit_status result ≡ 141 }
+    ensures other { last ≢ Written.Closed → exit_status result ≡ 0 }
+{
     match last {
         Written::Closed => ExitCode::from(141),
         _ => ExitCode::SUCCESS,
