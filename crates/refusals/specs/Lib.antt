@@ -1,4 +1,5 @@
--- To be believed: `Refusals`. `Leads` and `Largest` serve inside.
+-- To be believed: `Refusals` and `Numbers`. `Leads` and `Largest` serve inside.
 pub mod Refusals
+pub mod Numbers
 pub mod Leads
 pub mod Largest

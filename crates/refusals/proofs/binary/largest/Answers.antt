@@ -1,13 +1,14 @@
-use mathlib.Core.Path.{refl}
 use native.Mathlib.Omega.{arith}
-use Rattle.refusals.proofs.Largest.{searched_none, searched_more, searched_all}
+use mathlib.Core.Path.{subst}
+use Rattle.refusals.proofs.Largest.{largest_none, largest_more}
+use Rattle.refusals.specs.Largest.{Largest}
 use Rattle.refusals.proofs.binary.largest.Goals as goal
 
-pub loop-i-init : goal.loop-i-init
-loop-i-init c = searched_none refl
+pub loop-byte-init : goal.loop-byte-init
+loop-byte-init c = largest_none
 
-pub loop-i-preserved : goal.loop-i-preserved
-loop-i-preserved c = searched_more c.loop-i.invariant (omega arith) c.larger-most.ensures
+pub loop-byte-preserved : goal.loop-byte-preserved
+loop-byte-preserved c = largest_more c.loop-byte.invariant c.max-most.ensures
 
 pub returns : goal.returns
-returns c = searched_all c.loop-i.invariant (omega arith)
+returns c = subst (λ n. Largest c.args.bytes.now n c.loop-byte.most) (omega (arith, c.loop-byte.auto.byte-index-end)) c.loop-byte.invariant
