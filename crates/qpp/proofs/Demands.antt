@@ -9,7 +9,7 @@ use Rattle.polynomials.specs.Bounds.{Within}
 use Rattle.polynomials.specs.Inverses.{Undoes, from_first}
 use Rattle.triples.specs.declared.Triple.{Triple}
 use Rattle.triples.specs.Shuffles.{f}
-use Rattle.qpp.specs.declared.inverses.InverseForm.{InverseForm}
+use Rattle.qpp.specs.declared.answers.InverseForm.{InverseForm}
 use Rattle.qpp.specs.Promises.{InverseOf}
 
 module _ {t : Triple} {r : InverseForm} (answer : InverseOf t r) (done : r.number ≡ 0) where

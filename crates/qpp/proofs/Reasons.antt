@@ -11,7 +11,7 @@ use Rattle.explaining.proofs.Collisions.{Collision, collision_or_permutes, colli
 use Rattle.explaining.proofs.Failures.{failing_exists, fails_not}
 use Rattle.refusals.specs.Refusals.{Acceptance}
 use Rattle.refusals.proofs.Acceptance.{refused_by_three, refused_range, refused_exactly}
-use Rattle.qpp.specs.declared.explanations.Reason.{Reason}
+use Rattle.qpp.specs.declared.answers.Reason.{Reason}
 use Rattle.qpp.specs.Promises.{ReasonOf}
 
 module _ {t : Triple} where

@@ -13,7 +13,7 @@ use Rattle.triples.specs.Shuffles.{f, quadratic, InRange, Shuffle}
 use Rattle.qpp.specs.declared.walker.Walker.{Walker}
 use Rattle.qpp.specs.declared.walker.Start.{Start}
 use Rattle.qpp.specs.declared.walker.Step.{Step}
-use Rattle.qpp.specs.declared.shuffles.Value.{Value}
+use Rattle.qpp.specs.declared.answers.Value.{Value}
 use Rattle.qpp.specs.Promises.{Address, AddressList}
 use Rattle.qpp.specs.Walkers.{walker, step_tests, Started, Stepped, Walk}
 use Rattle.refusals.specs.Refusals.{no_list}

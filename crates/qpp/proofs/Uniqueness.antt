@@ -10,10 +10,10 @@ use Rattle.numbers.proofs.Lists.{written_one}
 use Rattle.permuting.specs.Formulas.{Formula}
 use Rattle.triples.specs.declared.Triple.{Triple}
 use Rattle.triples.specs.Shuffles.{quadratic, odd_form}
-use Rattle.qpp.specs.declared.shuffles.Value.{Value}
-use Rattle.qpp.specs.declared.inverses.InverseForm.{InverseForm}
-use Rattle.qpp.specs.declared.lists.ArpForm.{ArpForm}
-use Rattle.qpp.specs.declared.explanations.Reason.{Reason}
+use Rattle.qpp.specs.declared.answers.Value.{Value}
+use Rattle.qpp.specs.declared.answers.InverseForm.{InverseForm}
+use Rattle.qpp.specs.declared.answers.ArpForm.{ArpForm}
+use Rattle.qpp.specs.declared.answers.Reason.{Reason}
 use Rattle.qpp.specs.declared.walker.Walker.{Walker}
 use Rattle.qpp.specs.declared.walker.Start.{Start}
 use Rattle.qpp.specs.declared.walker.Step.{Step}

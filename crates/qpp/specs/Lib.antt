@@ -1,2 +1,4 @@
 pub mod Promises
 pub mod Walkers
+pub mod Answers
+pub mod Steps

@@ -11,10 +11,10 @@ use Rattle.arp_forms.specs.Arp.{Period, Arp}
 use Rattle.spreading.specs.Spreads.{Spread}
 use Rattle.explaining.specs.Reasons.{FirstCollision, LeastFailing}
 use Rattle.refusals.specs.Refusals.{Answer, range_tests, shuffle_tests, block_tests, no_list, nothing_to_explain}
-use Rattle.qpp.specs.declared.shuffles.Value.{Value}
-use Rattle.qpp.specs.declared.inverses.InverseForm.{InverseForm}
-use Rattle.qpp.specs.declared.lists.ArpForm.{ArpForm}
-use Rattle.qpp.specs.declared.explanations.Reason.{Reason}
+use Rattle.qpp.specs.declared.answers.Value.{Value}
+use Rattle.qpp.specs.declared.answers.InverseForm.{InverseForm}
+use Rattle.qpp.specs.declared.answers.ArpForm.{ArpForm}
+use Rattle.qpp.specs.declared.answers.Reason.{Reason}
 
 -- The address of a position from the running counter: that of its remainder by K.
 abbrev pub Address : Formula → ℕ → Value → Type 0

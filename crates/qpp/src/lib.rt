@@ -1,7 +1,8 @@
-// The interleaver's calls. None trusts its caller: each tests the numbers that it is given, and answers or
-// refuses by a number of the table. Each has a plain name here; `qpp_c` exports it under its name for C.
+// The interleaver's calls. None trusts its caller: each takes numbers and buffers as they come, tests what it is given, and answers or
+// refuses by a row of the table. `qpp_c` exports each under its name for C.
 #![tactic(auto)]
 
+mod answers;
 mod blocks;
 mod explanations;
 mod inverses;
@@ -9,15 +10,13 @@ mod lists;
 mod shuffles;
 mod walker;
 
+pub use answers::{ArpForm, InverseForm, Reason, Value};
 pub use blocks::{
     qpp_deinterleave_i16 as deinterleave_i16, qpp_deinterleave_u8 as deinterleave_u8,
     qpp_interleave_i16 as interleave_i16, qpp_interleave_u8 as interleave_u8,
 };
-pub use explanations::{Reason, qpp_explain as explain};
-pub use inverses::{InverseForm, qpp_inverse as inverse};
-pub use lists::{ArpForm, qpp_addresses as addresses, qpp_arp as arp};
-pub use shuffles::{
-    Value, qpp_accept as accept, qpp_address as address, qpp_reciprocal as reciprocal,
-    qpp_spread as spread,
-};
-pub use walker::{Start, Step, Walker, qpp_walker_start as walker_start};
+pub use explanations::{Explanation, explain};
+pub use inverses::inverse;
+pub use lists::{addresses, arp};
+pub use shuffles::{accept, address, reciprocal, spread};
+pub use walker::{Start, Step, Walker, walker_start};

@@ -1,62 +1,46 @@
 // The calls that write into a lent list.
-ghost use Rattle.std.specs.Prelude.{◌≡◌};
-ghost use Rattle.triples.specs.Shuffles.{triple, quadratic};
+ghost use Rattle.std.specs.Prelude.{[], ◌∷◌, ◌≤◌, IsOk};
+ghost use Rattle.triples.specs.Shuffles.{triple, quadratic, odd_form};
+ghost use Rattle.arp_forms.specs.Arp.{Period};
+ghost use Rattle.arp_forms.specs.Forms.{FormOf};
+ghost use Rattle.refusals.specs.Numbers.{number};
+ghost use Rattle.refusals.specs.Refusals.{First, no_list};
 ghost use Rattle.qpp.specs.Promises.{AddressList, ArpOf};
+ghost use Rattle.qpp.specs.Answers.{arp_form_of};
 
-use refusals::DONE;
+use arp_forms::Form;
+use refusals::Refusal;
 use triples::Triple;
 
 // Writes f(0) to f(K-1) into the list.
-pub fn qpp_addresses(k: u32, f1: u32, f2: u32, list: &mut [u16]) -> u32
-    ensures { AddressList (quadratic (triple k f1 f2)) list.old result list.new }
+pub fn addresses(k: u32, f1: u32, f2: u32, list: &mut [u16]) -> Result<(), Refusal>
+    ensures { AddressList (quadratic (triple k f1 f2)) list.old (number result) list.new }
 {
     let t = Triple { k, f1, f2 };
-    let number = refusals::accept(t);
-    if number != DONE {
-        return number;
-    }
+    refusals::accept(t)?;
     let places = k as usize;
-    let number = refusals::entries(places, list.len());
-    if number != DONE {
-        return number;
-    }
+    refusals::entries(places, list.len())?;
     triples::fill(t, places, list);
-    DONE
+    Ok(())
 }
 
-// A number of refusal, and beside 0 the numbers P and Q.
-#[repr(C)]
-#[derive(Drop)]
-pub struct ArpForm {
-    pub number: u32,
-    pub p: u32,
-    pub q: u32,
-}
-
-fn formless(number: u32) -> ArpForm
-    ensures { (result.number ≡ number) × (result.p ≡ 0) × (result.q ≡ 0) }
+// May the shifts of a form be written into a list of this size?
+fn room(t: Triple, form: Form, size: usize) -> Result<(), Refusal>
+    requires { FormOf t form }
+    ensures tested { First (no_list (Period (odd_form t)) size ∷ []) (number result) }
+    ensures enough { IsOk result → form.q ≤ size }
 {
-    ArpForm { number, p: 0, q: 0 }
+    refusals::entries(form.q as usize, size)
 }
 
 // The ARP form: P and Q, and S[0] to S[Q-1] into the list.
-pub fn qpp_arp(k: u32, f1: u32, f2: u32, list: &mut [u16]) -> ArpForm
-    ensures { ArpOf (triple k f1 f2) list.old result list.new }
+pub fn arp(k: u32, f1: u32, f2: u32, list: &mut [u16]) -> Result<(u32, u32), Refusal>
+    ensures { ArpOf (triple k f1 f2) list.old (arp_form_of result) list.new }
 {
     let t = Triple { k, f1, f2 };
-    let number = refusals::accept(t);
-    if number != DONE {
-        return formless(number);
-    }
+    refusals::accept(t)?;
     let form = arp_forms::form_of(t);
-    let number = refusals::entries(form.q as usize, list.len());
-    if number != DONE {
-        return formless(number);
-    }
+    room(t, form, list.len())?;
     arp_forms::shifts(form, list);
-    ArpForm {
-        number: DONE,
-        p: form.p,
-        q: form.q,
-    }
+    Ok((form.p, form.q))
 }

@@ -1,10 +1,12 @@
 // The walker over the addresses.
-ghost use Rattle.std.specs.Prelude.{◌≡◌, true, ◌+◌, ◌%◌, ◌<◌};
+ghost use Rattle.std.specs.Prelude.{◌≡◌, ◌+◌, ◌%◌, ◌<◌};
 ghost use Rattle.triples.specs.Shuffles.{triple};
+ghost use Rattle.refusals.specs.Numbers.{number};
 ghost use Rattle.refusals.specs.Refusals.{First};
-ghost use Rattle.qpp.specs.Walkers.{nowhere, step_tests, Started, Stepped};
+ghost use Rattle.qpp.specs.Walkers.{step_tests, Started, Stepped};
+ghost use Rattle.qpp.specs.Steps.{start_of, step_of};
 
-use refusals::DONE;
+use refusals::Refusal;
 use triples::Triple;
 
 // A position of a triple. A walker made by hand may hold anything.
@@ -15,55 +17,68 @@ pub struct Walker {
     pub at: u32,
 }
 
+// The walker of all zeros, which stands beside a refusal.
+const NOWHERE: Walker = Walker {
+    triple: Triple { k: 0, f1: 0, f2: 0 },
+    at: 0,
+};
+
+// A walker as C has it, with the number of refusal.
 #[repr(C)]
-#[derive(Drop)]
+#[derive(Clone, Copy)]
 pub struct Start {
     pub number: u32,
     pub walker: Walker,
 }
 
+impl From<Result<Walker, Refusal>> for Start {
+    ghost from_gives = { λ answer start. start ≡ start_of answer };
+
+    fn from(answer: Result<Walker, Refusal>) -> Start {
+        match answer {
+            Ok(walker) => Start { number: 0, walker },
+            Err(refusal) => Start {
+                number: refusal.into(),
+                walker: NOWHERE,
+            },
+        }
+    }
+}
+
+// A step as C has it: the number, the address and the walker moved on.
 #[repr(C)]
-#[derive(Drop)]
+#[derive(Clone, Copy)]
 pub struct Step {
     pub number: u32,
     pub address: u32,
     pub walker: Walker,
 }
 
-// What stands beside a refusal.
-fn zeros() -> Walker
-    ensures { result ≡ nowhere }
-{
-    let triple = Triple { k: 0, f1: 0, f2: 0 };
-    Walker { triple, at: 0 }
-}
+impl From<Result<(u32, Walker), Refusal>> for Step {
+    ghost from_gives = { λ answer step. step ≡ step_of answer };
 
-fn stopped(number: u32) -> Step
-    ensures { (result.number ≡ number) × (result.address ≡ 0) × (result.walker ≡ nowhere) }
-{
-    Step {
-        number,
-        address: 0,
-        walker: zeros(),
+    fn from(answer: Result<(u32, Walker), Refusal>) -> Step {
+        match answer {
+            Ok((address, walker)) => Step {
+                number: 0,
+                address,
+                walker,
+            },
+            Err(refusal) => Step {
+                number: refusal.into(),
+                address: 0,
+                walker: NOWHERE,
+            },
+        }
     }
 }
 
-// The number of a step.
-fn standing(w: Walker) -> u32
-    ensures { First (step_tests w) result }
+// May a step be made from here?
+fn stands(w: Walker) -> Result<(), Refusal>
+    ensures { First (step_tests w) (number result) }
 {
-    let number = refusals::range(w.triple);
-    if number != DONE {
-        return number;
-    }
+    refusals::range(w.triple)?;
     refusals::position(w.triple.k, w.at)
-}
-
-// Is the number 0? A step asks this first and the number only if it refuses, so that a walk that goes on makes no refusal ready.
-fn stands(w: Walker) -> bool
-    ensures { (result ≡ true → First (step_tests w) 0) × (First (step_tests w) 0 → result ≡ true) }
-{
-    standing(w) == DONE
 }
 
 // The position that comes after `at`: 0 after the last.
@@ -76,47 +91,26 @@ fn after(k: u32, at: u32) -> u32
 }
 
 // A walker at position 0, for a shuffle.
-pub fn qpp_walker_start(k: u32, f1: u32, f2: u32) -> Start
-    ensures { Started (triple k f1 f2) result }
+pub fn walker_start(k: u32, f1: u32, f2: u32) -> Result<Walker, Refusal>
+    ensures { Started (triple k f1 f2) (start_of result) }
 {
     let triple = Triple { k, f1, f2 };
-    let number = refusals::accept(triple);
-    if number != DONE {
-        return Start {
-            number,
-            walker: zeros(),
-        };
-    }
-    Start {
-        number: DONE,
-        walker: Walker { triple, at: 0 },
-    }
+    refusals::accept(triple)?;
+    Ok(Walker { triple, at: 0 })
 }
 
 impl Walker {
     // The present address, and the walker moved on. Whether the triple permutes is not asked.
-    pub fn step(self) -> Step
-        ensures { Stepped self result }
+    pub fn step(self) -> Result<(u32, Walker), Refusal>
+        ensures { Stepped self (step_of result) }
     {
-        if !stands(self) {
-            return stopped(standing(self));
-        }
+        stands(self)?;
         let triple = self.triple;
         let address = triples::place(triple, self.at as usize);
-        Step {
-            number: DONE,
-            address: address as u32,
-            walker: Walker {
-                triple,
-                at: after(triple.k, self.at),
-            },
-        }
+        let walker = Walker {
+            triple,
+            at: after(triple.k, self.at),
+        };
+        Ok((address as u32, walker))
     }
-}
-
-// A method has no name for C.
-pub fn qpp_walker_step(w: Walker) -> Step
-    ensures { Stepped w result }
-{
-    w.step()
 }
