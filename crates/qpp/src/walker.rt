@@ -1,5 +1,5 @@
 // The walker over the addresses.
-ghost use Rattle.std.specs.Prelude.{◌≡◌, ◌+◌, ◌%◌, ◌<◌};
+ghost use Rattle.std.specs.Prelude.{◌≡◌, ◌↔◌, IsTrue, ◌+◌, ◌%◌, ◌<◌};
 ghost use Rattle.triples.specs.Shuffles.{triple};
 ghost use Rattle.refusals.specs.Numbers.{number};
 ghost use Rattle.refusals.specs.Refusals.{First};
@@ -74,11 +74,18 @@ impl From<Result<(u32, Walker), Refusal>> for Step {
 }
 
 // May a step be made from here?
-fn stands(w: Walker) -> Result<(), Refusal>
+fn standing(w: Walker) -> Result<(), Refusal>
     ensures { First (step_tests w) (number result) }
 {
     refusals::range(w.triple)?;
     refusals::position(w.triple.k, w.at)
+}
+
+// A step asks this first and the refusal only if there is one, so that a walk that goes on makes none ready.
+fn stands(w: Walker) -> bool
+    ensures { IsTrue result ↔ First (step_tests w) 0 }
+{
+    standing(w).is_ok()
 }
 
 // The position that comes after `at`: 0 after the last.
@@ -104,13 +111,15 @@ impl Walker {
     pub fn step(self) -> Result<(u32, Walker), Refusal>
         ensures { Stepped self (step_of result) }
     {
-        stands(self)?;
-        let triple = self.triple;
-        let address = triples::place(triple, self.at as usize);
-        let walker = Walker {
-            triple,
-            at: after(triple.k, self.at),
-        };
-        Ok((address as u32, walker))
+        if stands(self) {
+            let triple = self.triple;
+            let address = triples::place(triple, self.at as usize);
+            let walker = Walker {
+                triple,
+                at: after(triple.k, self.at),
+            };
+            return Ok((address as u32, walker));
+        }
+        Err(standing(self).unwrap_err())
     }
 }

@@ -4,6 +4,8 @@ ghost use Rattle.permuting.specs.Blocks.{interleave, deinterleave};
 ghost use Rattle.triples.specs.Shuffles.{triple, quadratic};
 ghost use Rattle.qpp.specs.Promises.{Moves};
 
+use refusals::number;
+
 #[unsafe(no_mangle)]
 pub extern "C" fn qpp_interleave_u8(
     k: u32,
@@ -14,7 +16,7 @@ pub extern "C" fn qpp_interleave_u8(
 ) -> u32
     ensures { Moves interleave (quadratic (triple k f1 f2)) 0 block.old scratch.old result block.new scratch.new }
 {
-    qpp::interleave_u8(k, f1, f2, block, scratch)
+    number(qpp::interleave_u8(k, f1, f2, block, scratch))
 }
 
 #[unsafe(no_mangle)]
@@ -27,7 +29,7 @@ pub extern "C" fn qpp_interleave_i16(
 ) -> u32
     ensures { Moves interleave (quadratic (triple k f1 f2)) (pos 0) block.old scratch.old result block.new scratch.new }
 {
-    qpp::interleave_i16(k, f1, f2, block, scratch)
+    number(qpp::interleave_i16(k, f1, f2, block, scratch))
 }
 
 #[unsafe(no_mangle)]
@@ -40,7 +42,7 @@ pub extern "C" fn qpp_deinterleave_u8(
 ) -> u32
     ensures { Moves deinterleave (quadratic (triple k f1 f2)) 0 block.old scratch.old result block.new scratch.new }
 {
-    qpp::deinterleave_u8(k, f1, f2, block, scratch)
+    number(qpp::deinterleave_u8(k, f1, f2, block, scratch))
 }
 
 #[unsafe(no_mangle)]
@@ -53,5 +55,5 @@ pub extern "C" fn qpp_deinterleave_i16(
 ) -> u32
     ensures { Moves deinterleave (quadratic (triple k f1 f2)) (pos 0) block.old scratch.old result block.new scratch.new }
 {
-    qpp::deinterleave_i16(k, f1, f2, block, scratch)
+    number(qpp::deinterleave_i16(k, f1, f2, block, scratch))
 }
