@@ -12,10 +12,8 @@ pub fn fill(t: Triple, places: usize, list: &mut [u16])
     ensures { Written (f t) places list.old list.new }
 {
     let mut at = start(t);
-    let mut x: usize = 0;
-    while x < places {
-        list[x] = at.address as u16;
+    for entry in &mut list[..places] {
+        *entry = at.address as u16;
         at = next(at);
-        x += 1;
     }
 }
