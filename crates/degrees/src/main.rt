@@ -25,8 +25,8 @@ fn judge<R: Print>(rt: &R, t: Triple, above: u32) -> u32 {
 
 fn judge_all<R: Print>(rt: &R) -> u32 {
     let mut above = 0;
-    for i in 0..standard::COUNT {
-        above = judge(rt, standard::row_at(i), above);
+    for t in standard::all_rows() {
+        above = judge(rt, *t, above);
     }
     above
 }
@@ -35,6 +35,6 @@ fn main(rt: HostRuntime) -> ExitCode {
     let above = judge_all(&rt);
     number(&rt, above);
     say(&rt, b" of");
-    field(&rt, standard::COUNT as u32);
+    field(&rt, standard::all_rows().len() as u32);
     status(Written::of(rt.write_all(b" rows have D above 2\n")))
 }

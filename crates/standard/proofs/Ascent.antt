@@ -21,7 +21,8 @@ module _ (n : ℕ) (u : ℕ → ℕ) (test : T (ascending n u)) where
       let next = ltb→lt (u (i + d)) (u (suc (i + d))) (passes n (λ i. ltb (u i) (u (suc i))) test (i + d) (omega arith)) in
       omega (arith, ap u (add-suc i d), climbs i d (omega arith))
 
-  rises : (i j : ℕ) → i ≤ j → j ≤ n → u i + (j - i) ≤ u j
+  -- of two places the later has the number that is higher by as much at least
+  pub rises : (i j : ℕ) → i ≤ j → j ≤ n → u i + (j - i) ≤ u j
   rises i j h l = subst (λ (m : ℕ). u i + (j - i) ≤ u m) (omega arith) (climbs i (j - i) (omega arith))
 
   -- no number stands at two places

@@ -13,7 +13,7 @@ use Rattle.refusals.proofs.Tests.{none_first}
 use Rattle.refusals.proofs.Acceptance.{none_shuffle}
 use Rattle.standard.specs.Rows.{rows, row_at, Row}
 use Rattle.standard.proofs.QuickTest.{quick, quick_shuffle}
-use Rattle.standard.proofs.Ascent.{ascending, ascending_one, ascending_within}
+use Rattle.standard.proofs.Ascent.{ascending, rises, ascending_one, ascending_within}
 
 -- what holds of row i, for each i, holds of every row
 each : (P : Triple → Type 0) → ((i : ℕ) → i < 188 → P (row_at i)) → {t : Triple} → Row t → P t
@@ -44,6 +44,9 @@ length_at i = (row_at i).k
 all_ascend : T (ascending 187 length_at)
 unfolding rows
 all_ascend = tt
+
+pub lengths_rise : (i j : ℕ) → i ≤ j → j < 188 → (row_at i).k ≤ (row_at j).k
+lengths_rise i j h l = omega (arith, rises 187 length_at all_ascend i j h (omega arith))
 
 pub row_one : {t u : Triple} → Row t → Row u → t.k ≡ u.k → t ≡ u
 row_one {t} {u} r s e = sym r.listed ∙ ap row_at place ∙ s.listed

@@ -1,39 +1,55 @@
--- Laws of the columns: one computed test makes a list one, three make a row, and that of the lengths answers a search.
-use mathlib.Core.Path.{◌≡◌, sym, ap, ◌∙◌}
-use mathlib.Core.Logic.{◌≢◌}
-use mathlib.Core.List.{List}
-use Prim.Native.Nat.{ℕ, ◌<◌}
+-- What a binary search for a length says: the row of it, or that there is none.
+use mathlib.Core.Path.{◌≡◌, refl, sym, ap, ◌∙◌}
+use mathlib.Core.Logic.{by_cases}
+use Prim.Native.Nat.{ℕ, ◌≤◌, ◌<◌}
+use native.Mathlib.Decide.{dec_lt}
 use native.Mathlib.Omega.{arith}
-use lib.Dec.{T, eqb}
-use lib.ListN.{get_or}
-use Rattle.numbers.proofs.Computation.{every, same_below}
+use lib.ListN.{length, get_or}
+use Rattle.std.specs.Ordering.{nat_cmp, ordering_index}
+use Rattle.std.specs.List.Sorted.{IsBinarySearchResult, IsSearchInRange, IsNonDecreasingBy}
+use Rattle.std.specs.Result.{result_ok}
+use Rattle.std.specs.declared.result.Result.{Result}
+use Rattle.std.specs.declared.result.Result.TheVariants.{Ok, Err}
+use Rattle.std.specs.declared.cmp.Ordering.TheVariants.{Less, Equal, Greater}
+use Rattle.std.specs.declared.option.Option.TheVariants.{Some, None}
+use Rattle.std.proofs.lemmas.Option.{none-some}
+use Rattle.std.proofs.lemmas.Cmp.{ranked}
+use Rattle.std.proofs.lemmas.List.{get_or_default}
+use Rattle.std.proofs.lemmas.Bool.Decides.{nat_tests}
 use Rattle.triples.specs.declared.Triple.{Triple}
 use Rattle.triples.specs.Shuffles.{triple}
-use Rattle.standard.specs.Rows.{row_at, Row}
-use Rattle.standard.specs.Search.{Column, Found}
+use Rattle.standard.specs.Rows.{rows, row_at, Row, HasRow}
+use Rattle.standard.proofs.Rows.{row_count, lengths_rise}
 
-pub column : {number : Triple → ℕ} {list : List ℕ} → T (every 188 (λ i. eqb (get_or list i 0) (number (row_at i)))) → Column number list
-column {number} {list} test = record { at = same_below 188 (λ i. get_or list i 0) (λ i. number (row_at i)) test }
+module _ (k : ℕ) where
+  abbrev Searched : Result ℕ ℕ → Type 0
+  Searched = IsBinarySearchResult (λ (t : Triple). nat_cmp t.k k) rows
 
-module _ {lengths : List ℕ} (length : Column (λ t. t.k) lengths) where
-  pub row_made : {firsts seconds : List ℕ} → Column (λ t. t.f1) firsts → Column (λ t. t.f2) seconds → (i : ℕ) → i < 188
-      → triple (get_or lengths i 0) (get_or firsts i 0) (get_or seconds i 0) ≡ row_at i
-  row_made first second i l = rw (length.at i l, first.at i l, second.at i l)
+  same : (o : ℕ) (d : Triple) → o < 188 → nat_cmp (get_or rows o d).k k ≡ nat_cmp (row_at o).k k
+  same o d l = ap (λ (t : Triple). nat_cmp t.k k) (get_or_default rows o d (triple 0 0 0) (omega (arith, row_count)))
 
-  pub found_at : {k : ℕ} (i : ℕ) → i < 188 → get_or lengths i 0 ≡ k → Found k i
-  found_at i l e = record { within = omega arith; found = λ _. sym (length.at i l) ∙ e; missed = λ z. absurd (omega arith) }
+  rises : IsNonDecreasingBy (λ (t : Triple). ordering_index (nat_cmp t.k k)) rows
+  rises i j d h l =
+      let low = lengths_rise i j h (omega (arith, row_count)) in
+      let a = same i d (omega (arith, row_count)) in
+      let b = same j d (omega (arith, row_count)) in
+      rw (a, b) (higher (row_at i).k (row_at j).k low)
+    where
+      higher : (m n : ℕ) → m ≤ n → ordering_index (nat_cmp m k) ≤ ordering_index (nat_cmp n k)
+      higher m n l = grind (arith, nat_tests)
 
-  pub found_nowhere : {k : ℕ} → ((i : ℕ) → i < 188 → get_or lengths i 0 ≢ k) → Found k 188
-  found_nowhere none =
-      record {
-        within = omega arith;
-        found = λ l. absurd (omega arith);
-        missed = λ _ (t, e, row).
-            none row.place row.within (length.at row.place row.within ∙ ap (λ (t : Triple). t.k) row.listed ∙ e);
-      }
+  pub found : (r : Result ℕ ℕ) {i : ℕ} → IsSearchInRange r (length rows) → Searched r → result_ok r ≡ Some i → Row (row_at i) × ((row_at i).k ≡ k)
+  found (Ok j) {i} within h e =
+      let at : j ≡ i = cc in
+      (record { place = i; within = omega (arith, row_count); listed = refl }, ranked (row_at i).k k Equal (sym (h (triple 0 0 0)) ∙ ap (λ (n : ℕ). nat_cmp (row_at n).k k) at))
+  found (Err j) {i} within h e = cc
 
--- what stands at the place that was found is the row of the length
-pub found_row : {k i : ℕ} {t : Triple} → Found k i → i < 188 → t ≡ row_at i → Row (triple k t.f1 t.f2)
-found_row {k} {i} {t} found l e =
-    let length : t.k ≡ k = ap (λ (u : Triple). u.k) e ∙ found.found l in
-    record { place = i; within = l; listed = sym e ∙ λ j. record { k = length j; f1 = t.f1; f2 = t.f2 } }
+  pub missed : (r : Result ℕ ℕ) → Searched r → result_ok r ≡ None → ¬ HasRow k
+  missed (Ok j) h e = absurd (none-some j (sym e))
+  missed (Err j) h e = λ (t, is, row).
+      let point = h rises in
+      let p = row.place in
+      let length_is : (row_at p).k ≡ k = ap (λ (u : Triple). u.k) row.listed ∙ is in
+      by_cases (dec_lt p j)
+      (λ l. absurd (omega (arith, ranked (row_at p).k k Less (sym (point.0 p (triple 0 0 0) (omega arith) l)))))
+      (λ l. absurd (omega (arith, ranked (row_at p).k k Greater (sym (point.1 p (triple 0 0 0) (omega arith) (omega (arith, row.within, row_count)))))))

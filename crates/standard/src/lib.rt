@@ -3,40 +3,17 @@
 
 mod table;
 
-ghost use Rattle.std.specs.Prelude.{◌≡◌, ◌<◌};
-ghost use Rattle.standard.specs.Rows.{row_at};
-ghost use Rattle.standard.specs.Search.{Found};
+ghost use Rattle.std.specs.Prelude.{◌≡◌, MatchOption};
+ghost use Rattle.standard.specs.Rows.{Row, HasRow};
 
+pub use table::all_rows;
 use triples::Triple;
 
-pub const COUNT: usize = 188;
-
-// The place of the row of length k, or COUNT.
-pub fn find(k: u32) -> usize
-    ensures { Found k result }
+// The row of length k.
+pub fn row_of(k: u32) -> Option<Triple>
+    ensures { MatchOption result (¬ HasRow k) (λ t. Row t × (t.k ≡ k)) }
 {
-    let lengths = table::lengths();
-    let mut i: usize = 0;
-    while i < COUNT {
-        if lengths[i] as u32 == k {
-            return i;
-        }
-        i += 1;
-    }
-    COUNT
-}
-
-// Row i, from 0.
-pub fn row_at(i: usize) -> Triple
-    requires { i < 188 }
-    ensures { result ≡ row_at i }
-{
-    let lengths = table::lengths();
-    let firsts = table::firsts();
-    let seconds = table::seconds();
-    Triple {
-        k: lengths[i] as u32,
-        f1: firsts[i] as u32,
-        f2: seconds[i] as u32,
-    }
+    let rows = all_rows();
+    let i = rows.binary_search_by_key(&k, |t| t.k).ok()?;
+    Some(rows[i])
 }

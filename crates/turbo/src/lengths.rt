@@ -15,18 +15,16 @@ pub struct Row {
 pub fn turbo_row(k: u32) -> Row
     ensures { RowOf k result }
 {
-    let i = standard::find(k);
-    if i == standard::COUNT {
-        return Row {
+    match standard::row_of(k) {
+        Some(t) => Row {
+            number: DONE,
+            f1: t.f1,
+            f2: t.f2,
+        },
+        None => Row {
             number: NO_ROW,
             f1: 0,
             f2: 0,
-        };
-    }
-    let t = standard::row_at(i);
-    Row {
-        number: DONE,
-        f1: t.f1,
-        f2: t.f2,
+        },
     }
 }
