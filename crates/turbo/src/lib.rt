@@ -4,5 +4,5 @@
 mod encoder;
 mod lengths;
 
-pub use encoder::turbo_encode as encode;
-pub use lengths::{Row, turbo_row as row_of};
+pub use encoder::encode;
+pub use lengths::{Row, row_of};

@@ -3,13 +3,14 @@
 
 ghost use Rattle.turbo.specs.Promises.{RowOf, Encodes};
 
+use refusals::number;
 use turbo::Row;
 
 #[unsafe(no_mangle)]
 pub extern "C" fn turbo_row(k: u32) -> Row
     ensures { RowOf k result }
 {
-    turbo::row_of(k)
+    turbo::row_of(k).into()
 }
 
 #[unsafe(no_mangle)]
@@ -22,5 +23,5 @@ pub extern "C" fn turbo_encode(
 ) -> u32
     ensures { Encodes k input.now d0.old d1.old d2.old result d0.new d1.new d2.new }
 {
-    turbo::encode(k, input, d0, d1, d2)
+    number(turbo::encode(k, input, d0, d1, d2))
 }
