@@ -119,16 +119,16 @@ fn show_reason<R: Print>(rt: &R, reason: Reason) {
 
 fn moved_bytes(t: Triple, back: bool, block: &mut [u8], marks: &mut [u8]) -> u32 {
     if back {
-        return qpp::deinterleave_u8(t.k, t.f1, t.f2, block, marks);
+        return qpp::deinterleave(t.k, t.f1, t.f2, block, marks);
     }
-    qpp::interleave_u8(t.k, t.f1, t.f2, block, marks)
+    qpp::interleave(t.k, t.f1, t.f2, block, marks)
 }
 
 fn moved_symbols(t: Triple, back: bool, block: &mut [i16], marks: &mut [u8]) -> u32 {
     if back {
-        return qpp::deinterleave_i16(t.k, t.f1, t.f2, block, marks);
+        return qpp::deinterleave(t.k, t.f1, t.f2, block, marks);
     }
-    qpp::interleave_i16(t.k, t.f1, t.f2, block, marks)
+    qpp::interleave(t.k, t.f1, t.f2, block, marks)
 }
 
 fn move_bytes(

@@ -1,5 +1,4 @@
-// The calls that move the symbols of a lent block.
-ghost use Rattle.std.specs.Prelude.{pos};
+// The calls that move the symbols of a lent block, of any kind.
 ghost use Rattle.permuting.specs.Blocks.{marks_of, interleave, deinterleave};
 ghost use Rattle.triples.specs.Shuffles.{triple, quadratic};
 ghost use Rattle.refusals.specs.Refusals.{shuffle_tests, block_tests};
@@ -21,53 +20,27 @@ fn movable(t: Triple, block: usize, scratch: usize) -> u32
 }
 
 // Place i comes to hold the symbol that stood at f(i).
-pub fn qpp_interleave_u8(k: u32, f1: u32, f2: u32, block: &mut [u8], scratch: &mut [u8]) -> u32
-    ensures { Moves interleave (quadratic (triple k f1 f2)) 0 block.old scratch.old result block.new scratch.new }
+pub fn interleave<T: Copy>(k: u32, f1: u32, f2: u32, block: &mut [T], scratch: &mut [u8]) -> u32
+    ensures { (d : T) → Moves interleave (quadratic (triple k f1 f2)) d block.old scratch.old result block.new scratch.new }
 {
     let t = Triple { k, f1, f2 };
     let number = movable(t, block.len(), scratch.len());
     if number != DONE {
         return number;
     }
-    moving_bytes::interleave_u8(maps::map_of(t), block, scratch);
+    moving::interleave(maps::map_of(t), block, scratch);
     DONE
 }
 
 // Place f(i) comes to hold the symbol that stood at i.
-pub fn qpp_deinterleave_u8(k: u32, f1: u32, f2: u32, block: &mut [u8], scratch: &mut [u8]) -> u32
-    ensures { Moves deinterleave (quadratic (triple k f1 f2)) 0 block.old scratch.old result block.new scratch.new }
+pub fn deinterleave<T: Copy>(k: u32, f1: u32, f2: u32, block: &mut [T], scratch: &mut [u8]) -> u32
+    ensures { (d : T) → Moves deinterleave (quadratic (triple k f1 f2)) d block.old scratch.old result block.new scratch.new }
 {
     let t = Triple { k, f1, f2 };
     let number = movable(t, block.len(), scratch.len());
     if number != DONE {
         return number;
     }
-    moving_bytes::deinterleave_u8(maps::map_of(t), block, scratch);
-    DONE
-}
-
-// Place i comes to hold the symbol that stood at f(i).
-pub fn qpp_interleave_i16(k: u32, f1: u32, f2: u32, block: &mut [i16], scratch: &mut [u8]) -> u32
-    ensures { Moves interleave (quadratic (triple k f1 f2)) (pos 0) block.old scratch.old result block.new scratch.new }
-{
-    let t = Triple { k, f1, f2 };
-    let number = movable(t, block.len(), scratch.len());
-    if number != DONE {
-        return number;
-    }
-    moving_words::interleave_i16(maps::map_of(t), block, scratch);
-    DONE
-}
-
-// Place f(i) comes to hold the symbol that stood at i.
-pub fn qpp_deinterleave_i16(k: u32, f1: u32, f2: u32, block: &mut [i16], scratch: &mut [u8]) -> u32
-    ensures { Moves deinterleave (quadratic (triple k f1 f2)) (pos 0) block.old scratch.old result block.new scratch.new }
-{
-    let t = Triple { k, f1, f2 };
-    let number = movable(t, block.len(), scratch.len());
-    if number != DONE {
-        return number;
-    }
-    moving_words::deinterleave_i16(maps::map_of(t), block, scratch);
+    moving::deinterleave(maps::map_of(t), block, scratch);
     DONE
 }

@@ -9,10 +9,7 @@ mod lists;
 mod shuffles;
 mod walker;
 
-pub use blocks::{
-    qpp_deinterleave_i16 as deinterleave_i16, qpp_deinterleave_u8 as deinterleave_u8,
-    qpp_interleave_i16 as interleave_i16, qpp_interleave_u8 as interleave_u8,
-};
+pub use blocks::{deinterleave, interleave};
 pub use explanations::{Reason, qpp_explain as explain};
 pub use inverses::{InverseForm, qpp_inverse as inverse};
 pub use lists::{ArpForm, qpp_addresses as addresses, qpp_arp as arp};

@@ -14,7 +14,7 @@ pub extern "C" fn qpp_interleave_u8(
 ) -> u32
     ensures { Moves interleave (quadratic (triple k f1 f2)) 0 block.old scratch.old result block.new scratch.new }
 {
-    qpp::interleave_u8(k, f1, f2, block, scratch)
+    qpp::interleave(k, f1, f2, block, scratch)
 }
 
 #[unsafe(no_mangle)]
@@ -27,7 +27,7 @@ pub extern "C" fn qpp_interleave_i16(
 ) -> u32
     ensures { Moves interleave (quadratic (triple k f1 f2)) (pos 0) block.old scratch.old result block.new scratch.new }
 {
-    qpp::interleave_i16(k, f1, f2, block, scratch)
+    qpp::interleave(k, f1, f2, block, scratch)
 }
 
 #[unsafe(no_mangle)]
@@ -40,7 +40,7 @@ pub extern "C" fn qpp_deinterleave_u8(
 ) -> u32
     ensures { Moves deinterleave (quadratic (triple k f1 f2)) 0 block.old scratch.old result block.new scratch.new }
 {
-    qpp::deinterleave_u8(k, f1, f2, block, scratch)
+    qpp::deinterleave(k, f1, f2, block, scratch)
 }
 
 #[unsafe(no_mangle)]
@@ -53,5 +53,5 @@ pub extern "C" fn qpp_deinterleave_i16(
 ) -> u32
     ensures { Moves deinterleave (quadratic (triple k f1 f2)) (pos 0) block.old scratch.old result block.new scratch.new }
 {
-    qpp::deinterleave_i16(k, f1, f2, block, scratch)
+    qpp::deinterleave(k, f1, f2, block, scratch)
 }
