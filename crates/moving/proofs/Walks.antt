@@ -22,7 +22,6 @@ module _ (w : Direction) {A : Type 0} (k : ℕ) (π : ℕ → ℕ) where
 
   -- on the cycle of start, come to i, with a symbol in hand
   pub record Walking (xs₀ : List A) (s₀ : List ℕ) (start : ℕ) (xs : List A) (s : List ℕ) (i : ℕ) (held : A) : Type 0 where
-    pub start_lt : start < k
     pub i_lt : i < k
     pub next_lt : π i < k
     pub room : k ≤ 8 * length s
@@ -33,7 +32,7 @@ module _ {w : Direction} {A : Type 0} {k : ℕ} {π : ℕ → ℕ} where
       → Walking w k π xs₀ s₀ start xs s i held
   walking {held = held} f =
       let c = f held in
-      record { start_lt = c.start_lt; i_lt = c.i_lt; next_lt = c.next_lt; room = c.room; cycle = f }
+      record { i_lt = c.i_lt; next_lt = c.next_lt; room = c.room; cycle = f }
 
   resting : {old xs : List A} {clean s : List ℕ} {start : ℕ} → A → ((d : A) → Between w d k π old clean xs s start) → Resting w k π old clean xs s start
   resting a f = record { room = (f a).room; between = f }

@@ -1,4 +1,5 @@
-// The calls that move the symbols of a lent block, of any kind.
+// The calls that move the symbols of a lent block, of any kind. The directions stay two functions: what they share is `movable`, and a
+// mover handed in as a closure would have to be told again, in a clause at the parameter, what it asks and what it moves.
 ghost use Rattle.permuting.specs.Blocks.{marks_of, interleave, deinterleave};
 ghost use Rattle.triples.specs.Shuffles.{triple, quadratic};
 ghost use Rattle.refusals.specs.Refusals.{shuffle_tests, block_tests};
