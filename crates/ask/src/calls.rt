@@ -117,18 +117,11 @@ fn show_reason<R: Print>(rt: &R, reason: Reason) {
     field(rt, reason.prime)
 }
 
-fn moved_bytes(t: Triple, back: bool, block: &mut [u8], marks: &mut [u8]) -> u32 {
+fn moved<T: Copy>(t: Triple, back: bool, block: &mut [T], marks: &mut [u8]) -> u32 {
     if back {
-        return qpp::deinterleave_u8(t.k, t.f1, t.f2, block, marks);
+        return qpp::deinterleave(t.k, t.f1, t.f2, block, marks);
     }
-    qpp::interleave_u8(t.k, t.f1, t.f2, block, marks)
-}
-
-fn moved_symbols(t: Triple, back: bool, block: &mut [i16], marks: &mut [u8]) -> u32 {
-    if back {
-        return qpp::deinterleave_i16(t.k, t.f1, t.f2, block, marks);
-    }
-    qpp::interleave_i16(t.k, t.f1, t.f2, block, marks)
+    qpp::interleave(t.k, t.f1, t.f2, block, marks)
 }
 
 fn move_bytes(
@@ -145,7 +138,7 @@ fn move_bytes(
     let mut marks = [0u8; 8200];
     widths::narrow(list, &mut block);
     widths::narrow(scratch, &mut marks);
-    let number = moved_bytes(t, back, &mut block[0..size], &mut marks[0..count]);
+    let number = moved(t, back, &mut block[0..size], &mut marks[0..count]);
     widths::widen(&block, list);
     widths::widen(&marks, scratch);
     number
@@ -165,7 +158,7 @@ fn move_symbols(
     let mut marks = [0u8; 8200];
     widths::lower(list, &mut block);
     widths::narrow(scratch, &mut marks);
-    let number = moved_symbols(t, back, &mut block[0..size], &mut marks[0..count]);
+    let number = moved(t, back, &mut block[0..size], &mut marks[0..count]);
     widths::raise(&block, list);
     widths::widen(&marks, scratch);
     number

@@ -1,2 +1,2 @@
--- `Returns`: what a mover's return gives.
-pub mod Returns
+-- `Walks`: what a mover keeps on its way, and what its return gives.
+pub mod Walks

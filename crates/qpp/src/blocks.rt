@@ -1,5 +1,5 @@
-// The calls that move the symbols of a lent block.
-ghost use Rattle.std.specs.Prelude.{pos};
+// The calls that move the symbols of a lent block, of any kind. The directions stay two functions: what they share is `movable`, and a
+// mover handed in as a closure would have to be told again, in a clause at the parameter, what it asks and what it moves.
 ghost use Rattle.permuting.specs.Blocks.{marks_of, interleave, deinterleave};
 ghost use Rattle.triples.specs.Shuffles.{triple, quadratic};
 ghost use Rattle.refusals.specs.Numbers.{number};
@@ -19,65 +19,33 @@ fn movable(t: Triple, block: usize, scratch: usize) -> Result<(), Refusal>
 }
 
 // Place i comes to hold the symbol that stood at f(i).
-pub fn qpp_interleave_u8(
+pub fn interleave<T: Copy>(
     k: u32,
     f1: u32,
     f2: u32,
-    block: &mut [u8],
+    block: &mut [T],
     scratch: &mut [u8],
 ) -> Result<(), Refusal>
-    ensures { Moves interleave (quadratic (triple k f1 f2)) 0 block.old scratch.old (number result) block.new scratch.new }
+    ensures { (d : T) → Moves interleave (quadratic (triple k f1 f2)) d block.old scratch.old (number result) block.new scratch.new }
 {
     let t = Triple { k, f1, f2 };
     movable(t, block.len(), scratch.len())?;
-    moving_bytes::interleave_u8(maps::map_of(t), block, scratch);
+    moving::interleave(maps::map_of(t), block, scratch);
     Ok(())
 }
 
 // Place f(i) comes to hold the symbol that stood at i.
-pub fn qpp_deinterleave_u8(
+pub fn deinterleave<T: Copy>(
     k: u32,
     f1: u32,
     f2: u32,
-    block: &mut [u8],
+    block: &mut [T],
     scratch: &mut [u8],
 ) -> Result<(), Refusal>
-    ensures { Moves deinterleave (quadratic (triple k f1 f2)) 0 block.old scratch.old (number result) block.new scratch.new }
+    ensures { (d : T) → Moves deinterleave (quadratic (triple k f1 f2)) d block.old scratch.old (number result) block.new scratch.new }
 {
     let t = Triple { k, f1, f2 };
     movable(t, block.len(), scratch.len())?;
-    moving_bytes::deinterleave_u8(maps::map_of(t), block, scratch);
-    Ok(())
-}
-
-// Place i comes to hold the symbol that stood at f(i).
-pub fn qpp_interleave_i16(
-    k: u32,
-    f1: u32,
-    f2: u32,
-    block: &mut [i16],
-    scratch: &mut [u8],
-) -> Result<(), Refusal>
-    ensures { Moves interleave (quadratic (triple k f1 f2)) (pos 0) block.old scratch.old (number result) block.new scratch.new }
-{
-    let t = Triple { k, f1, f2 };
-    movable(t, block.len(), scratch.len())?;
-    moving_words::interleave_i16(maps::map_of(t), block, scratch);
-    Ok(())
-}
-
-// Place f(i) comes to hold the symbol that stood at i.
-pub fn qpp_deinterleave_i16(
-    k: u32,
-    f1: u32,
-    f2: u32,
-    block: &mut [i16],
-    scratch: &mut [u8],
-) -> Result<(), Refusal>
-    ensures { Moves deinterleave (quadratic (triple k f1 f2)) (pos 0) block.old scratch.old (number result) block.new scratch.new }
-{
-    let t = Triple { k, f1, f2 };
-    movable(t, block.len(), scratch.len())?;
-    moving_words::deinterleave_i16(maps::map_of(t), block, scratch);
+    moving::deinterleave(maps::map_of(t), block, scratch);
     Ok(())
 }

@@ -11,10 +11,7 @@ mod shuffles;
 mod walker;
 
 pub use answers::{ArpForm, InverseForm, Reason, Value};
-pub use blocks::{
-    qpp_deinterleave_i16 as deinterleave_i16, qpp_deinterleave_u8 as deinterleave_u8,
-    qpp_interleave_i16 as interleave_i16, qpp_interleave_u8 as interleave_u8,
-};
+pub use blocks::{deinterleave, interleave};
 pub use explanations::{Explanation, explain};
 pub use inverses::inverse;
 pub use lists::{addresses, arp};

@@ -16,7 +16,7 @@ pub extern "C" fn qpp_interleave_u8(
 ) -> u32
     ensures { Moves interleave (quadratic (triple k f1 f2)) 0 block.old scratch.old result block.new scratch.new }
 {
-    number(qpp::interleave_u8(k, f1, f2, block, scratch))
+    number(qpp::interleave(k, f1, f2, block, scratch))
 }
 
 #[unsafe(no_mangle)]
@@ -29,7 +29,7 @@ pub extern "C" fn qpp_interleave_i16(
 ) -> u32
     ensures { Moves interleave (quadratic (triple k f1 f2)) (pos 0) block.old scratch.old result block.new scratch.new }
 {
-    number(qpp::interleave_i16(k, f1, f2, block, scratch))
+    number(qpp::interleave(k, f1, f2, block, scratch))
 }
 
 #[unsafe(no_mangle)]
@@ -42,7 +42,7 @@ pub extern "C" fn qpp_deinterleave_u8(
 ) -> u32
     ensures { Moves deinterleave (quadratic (triple k f1 f2)) 0 block.old scratch.old result block.new scratch.new }
 {
-    number(qpp::deinterleave_u8(k, f1, f2, block, scratch))
+    number(qpp::deinterleave(k, f1, f2, block, scratch))
 }
 
 #[unsafe(no_mangle)]
@@ -55,5 +55,5 @@ pub extern "C" fn qpp_deinterleave_i16(
 ) -> u32
     ensures { Moves deinterleave (quadratic (triple k f1 f2)) (pos 0) block.old scratch.old result block.new scratch.new }
 {
-    number(qpp::deinterleave_i16(k, f1, f2, block, scratch))
+    number(qpp::deinterleave(k, f1, f2, block, scratch))
 }

@@ -1,0 +1,6 @@
+-- The library promises it whatever `get_or` answers past an end. The clause names 0.
+use Rattle.std.proofs.Common.{pos}
+use Rattle.qpp_c.proofs.blocks.qpp_interleave_i16.Goals as goal
+
+pub returns : goal.returns
+returns c = rw c.number.ensures (c.interleave.ensures (pos 0))
