@@ -12,7 +12,7 @@ use std::array;
 use triples::Triple;
 
 // a[0] is a1, the coefficient of y. The degree stands beside an array and not in the length of a Vec: the library uses no heap.
-#[derive(Clone, Copy)]
+#[derive(Drop)]
 pub struct Polynomial {
     pub degree: u32,
     pub a: [u32; 13],
