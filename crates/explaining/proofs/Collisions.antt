@@ -7,7 +7,6 @@ use Prim.Native.Nat.{ℕ, ◌+◌, ◌*◌, ◌≤◌, ◌<◌}
 use native.Mathlib.Decide.{ℕ_discrete, dec_lt}
 use native.Mathlib.Omega.{arith}
 use lib.ListN.{length}
-use Rattle.std.proofs.Common.{Option, None, Some, MatchOption}
 use Rattle.numbers.proofs.Computation.{FirstBelow, first_or_none}
 use Rattle.permuting.specs.Formulas.{Formula, Permutes}
 use Rattle.permuting.proofs.Formulas.{permutes_apart}
@@ -15,7 +14,7 @@ use Rattle.permuting.specs.Bitmap.{marks, Stands, Marked}
 use Rattle.permuting.proofs.Bitmap.{length_marks, marked_length}
 use Rattle.permuting.proofs.Cycles.{Seen, clash, seen_now, seen_still, seen_how}
 use Rattle.explaining.specs.Reasons.{FirstCollision}
-use Rattle.explaining.specs.Searches.{Met, Earliest}
+use Rattle.explaining.specs.Searches.{Earliest}
 
 -- no two positions below y share an address
 abbrev ApartBelow : Formula → ℕ → Type 0
@@ -101,11 +100,9 @@ pub record Searching (φ : Formula) (s : List ℕ) (y : ℕ) : Type 0 where
 module _ (φ : Formula) {s : List ℕ} {y : ℕ} (g : Searching φ s y) (within : y < φ.length) {a : ℕ} (here : a ≡ φ.map y) where
   module _ (small : a < φ.length) where
     -- the address is marked: the first position that has it makes the pair
-    pub searching_found : {x : ℕ} {found : Option ℕ} {answer : Bool} → Stands answer a s → answer ≡ true → found ≡ Some x
-        → MatchOption found (¬ Met φ a) (Earliest φ a) → FirstCollision φ y x a
-    searching_found {x} stands said is sought =
+    pub searching_found : {x : ℕ} {answer : Bool} → Stands answer a s → answer ≡ true → Earliest φ a x → FirstCollision φ y x a
+    searching_found {x} stands said e =
         let (i, l, w) = g.only a (stands φ.length small ∙ said) in
-        let e : Earliest φ a x = rw is at sought in
         record { within = within; earlier = by_cases (dec_lt i x) (λ m. absurd (e.first i m w)) (λ m. omega arith); here = sym here; there = e.has; smallest = g.apart }
 
     -- it is not: the search goes on
@@ -140,10 +137,7 @@ module _ (φ : Formula) {s : List ℕ} {y : ℕ} (g : Searching φ s y) (within 
 
 -- ---- the first position that has an address
 
--- none of the positions from 0 on has it, or x is the first that has it
-pub sought : (φ : Formula) (address : ℕ) (r : Option ℕ)
-    → MatchOption r ((k : ℕ) → 0 ≤ k → k < φ.length → φ.map k ≢ address)
-    (λ x. (0 ≤ x) × (x < φ.length) × (φ.map x ≡ address) × ((k : ℕ) → 0 ≤ k → k < x → φ.map k ≢ address))
-    → MatchOption r (¬ Met φ address) (Earliest φ address)
-sought φ address None none = λ met. none met.at (omega arith) met.within met.has
-sought φ address (Some x) (low, within, has, before) = record { within = within; has = has; first = λ j l. before j (omega arith) l }
+-- none before x has it
+pub record Rising (φ : Formula) (address x : ℕ) : Type 0 where
+  pub within : x < φ.length
+  pub before : (j : ℕ) → j < x → φ.map j ≢ address

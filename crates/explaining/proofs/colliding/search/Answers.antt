@@ -11,4 +11,4 @@ loop-y-preserved c =
 pub returns-then-is_marked : goal.returns-then-is_marked
 returns-then-is_marked c =
     searching_found (along _) c.loop-y.invariant (omega arith) c.place-address.ensures.0 c.place-address.ensures.1 c.is_marked.ensures
-    c.if-is_marked.true c.unwrap.ensures c.earliest.ensures
+    c.if-is_marked.true c.earliest.ensures
