@@ -14,7 +14,7 @@ use Rattle.permuting.specs.Bitmap.{marks, Stands, Marked}
 use Rattle.permuting.proofs.Bitmap.{length_marks, marked_length}
 use Rattle.permuting.proofs.Cycles.{Seen, clash, seen_now, seen_still, seen_how}
 use Rattle.explaining.specs.Reasons.{FirstCollision}
-use Rattle.explaining.specs.Searches.{Unmarked, Met, Earliest}
+use Rattle.explaining.specs.Searches.{Earliest}
 
 -- no two positions below y share an address
 abbrev ApartBelow : Formula → ℕ → Type 0
@@ -92,40 +92,23 @@ collision_or_permutes φ =
 
 -- come to y with the addresses before it marked, and no other
 pub record Searching (φ : Formula) (s : List ℕ) (y : ℕ) : Type 0 where
-  pub within : y < φ.length
   pub apart : ApartBelow φ y
   pub marked : (i : ℕ) → i < y → Seen (marks φ.length s) (φ.map i)
   pub only : (a : ℕ) → Seen (marks φ.length s) a → (i : ℕ) × (i < y) × (φ.map i ≡ a)
   pub room : φ.length ≤ 8 * length s
 
-pub searching_start : (φ : Formula) {s : List ℕ} → ¬ Permutes φ → Unmarked φ.length s → Searching φ s 0
-searching_start φ collides u =
-    record {
-      within = by_cases (dec_lt 0 φ.length) (λ l. l) (λ l. absurd (collides (λ x y lx. absurd (omega arith))));
-      apart = λ i j l m. absurd (omega arith);
-      marked = λ i l. absurd (omega arith);
-      only = λ a m. clash m (u.none a);
-      room = u.room;
-    }
-
-module _ (φ : Formula) {s : List ℕ} {y : ℕ} (g : Searching φ s y) {a : ℕ} (here : a ≡ φ.map y) where
+module _ (φ : Formula) {s : List ℕ} {y : ℕ} (g : Searching φ s y) (within : y < φ.length) {a : ℕ} (here : a ≡ φ.map y) where
   module _ (small : a < φ.length) where
-    -- the address is marked: an earlier position has it
-    pub searching_met : {answer : Bool} → Stands answer a s → answer ≡ true → Met φ a
-    searching_met stands said = let (i, l, e) = g.only a (stands φ.length small ∙ said) in record { at = i; within = omega (arith, g.within); has = e }
-
-    -- and the first that has it makes the pair
+    -- the address is marked: the first position that has it makes the pair
     pub searching_found : {x : ℕ} {answer : Bool} → Stands answer a s → answer ≡ true → Earliest φ a x → FirstCollision φ y x a
     searching_found {x} stands said e =
         let (i, l, w) = g.only a (stands φ.length small ∙ said) in
-        record { within = g.within; earlier = by_cases (dec_lt i x) (λ m. absurd (e.first i m w)) (λ m. omega arith); here = sym here; there = e.has; smallest = g.apart }
+        record { within = within; earlier = by_cases (dec_lt i x) (λ m. absurd (e.first i m w)) (λ m. omega arith); here = sym here; there = e.has; smallest = g.apart }
 
     -- it is not: the search goes on
-    pub searching_step : {s' : List ℕ} {answer : Bool} → ¬ Permutes φ → Stands answer a s → answer ≡ false → Marked a s s' → Searching φ s' (y + 1)
-    searching_step {s'} collides stands said m =
+    pub searching_step : {s' : List ℕ} {answer : Bool} → Stands answer a s → answer ≡ false → Marked a s s' → Searching φ s' (y + 1)
+    searching_step {s'} stands said m =
         record {
-          within = by_cases (dec_lt (y + 1) φ.length) (λ l. l)
-              (λ l. absurd (collides (permutes_apart φ (λ i j l' m'. apart i j l' (omega (arith, g.within))))));
           apart = apart;
           marked = λ i l. by_cases (ℕ_discrete i y) (λ e. later (φ.map i) (ap φ.map e ∙ sym here)) (λ ne. still i (g.marked i (omega arith)));
           only = λ b seen. ⊎_elim (λ e. (y, omega arith, sym here ∙ sym e)) (λ old. let (i, l, w) = g.only b old in (i, omega arith, w)) (how b seen);
@@ -158,20 +141,3 @@ module _ (φ : Formula) {s : List ℕ} {y : ℕ} (g : Searching φ s y) {a : ℕ
 pub record Rising (φ : Formula) (address x : ℕ) : Type 0 where
   pub within : x < φ.length
   pub before : (j : ℕ) → j < x → φ.map j ≢ address
-
-module _ (φ : Formula) {address : ℕ} (met : Met φ address) where
-  pub rising_start : Rising φ address 0
-  rising_start = record { within = omega (arith, met.within); before = λ j l. absurd (omega arith) }
-
-  pub rising_step : {x : ℕ} → Rising φ address x → φ.map x ≢ address → Rising φ address (x + 1)
-  rising_step {x} g ne = record { within = go (dec_lt met.at (x + 1)); before = before }
-    where
-      before : (j : ℕ) → j < x + 1 → φ.map j ≢ address
-      before j l e = by_cases (ℕ_discrete j x) (λ same. ne (ap φ.map (sym same) ∙ e)) (λ other. g.before j (omega arith) e)
-
-      go : Dec (met.at < x + 1) → x + 1 < φ.length
-      go (yes l) = absurd (before met.at l met.has)
-      go (no l) = omega (arith, met.within)
-
-pub rising_found : {φ : Formula} {address x : ℕ} → Rising φ address x → φ.map x ≡ address → Earliest φ address x
-rising_found g e = record { within = g.within; has = e; first = g.before }

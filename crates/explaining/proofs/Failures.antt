@@ -3,7 +3,6 @@ use mathlib.Core.Path.{◌≡◌, refl, sym, subst}
 use mathlib.Core.Logic.{⊎_elim, by_cases}
 use mathlib.Core.Bool.{Bool}
 use Prim.Native.Nat.{ℕ, zero, suc, ◌%◌, ◌≤◌, ◌<◌}
-use native.Mathlib.Nat.{mod-lt}
 use native.Mathlib.Decide.{ℕ_discrete, dec_dvd}
 use native.Mathlib.Omega.{arith}
 use Rattle.numbers.specs.Decision.{Decides}
@@ -37,10 +36,6 @@ reduced_decides t m d =
 
     same : (x : ℕ) → f small x ≡ f (modulo t m) x
     same = reduced m t.f1 t.f2
-
-pub reduced_range : (t : Triple) {m : ℕ} → 2 ≤ m → m ≤ 8192 → InRange (triple m (t.f1 % m) (t.f2 % m))
-reduced_range t low high =
-    record { low = low; high = high; first = mod-lt t.f1 (omega arith); second = mod-lt t.f2 (omega arith) }
 
 -- ---- a prime that fails
 

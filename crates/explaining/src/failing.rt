@@ -25,10 +25,10 @@ pub fn failing_prime(t: Triple) -> u32
     ensures { LeastFailing t result }
 {
     let mut rest = t.k;
-    'primes: loop {
+    loop {
         let factor = numbers::first_factor(rest);
         if !permutes_modulo(t, factor.power) {
-            break 'primes factor.prime;
+            return factor.prime;
         }
         rest = factor.rest;
     }

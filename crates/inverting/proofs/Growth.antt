@@ -1,18 +1,21 @@
 -- The loop that makes the series: each term comes of the power before it.
 use mathlib.Core.Path.{◌≡◌, refl, sym, ap, subst, ◌∙◌}
+use mathlib.Core.Bool.{Bool}
 use mathlib.Core.List.{List}
 use Prim.Native.Nat.{ℕ, zero, suc, ◌+◌, ◌*◌, ◌-◌, ◌%◌, ◌^◌, ◌≤◌, ◌<◌}
 use native.Mathlib.Nat.{pow-zero, pow-suc, mul-le-mul}
 use native.Mathlib.Omega.{arith}
 use native.Mathlib.Numerals.{add-one}
 use native.Mathlib.Decide.{dec_lt}
-use lib.ListN.{length, get_or, set, replicate, length-set, get_or-eq_default}
+use lib.Dec.{ltb, ltb→lt}
+use lib.ListN.{length, get_or, set, length-set, get_or-eq_default}
 use lib.Pow.{pow-add}
 use lib.Seq.{get_or-set_other}
 use Rattle.numbers.specs.Congruences.{Cong}
 use Rattle.numbers.proofs.Congruences.{cong_eq, cong_sym, ◌⨾◌, cong_mul, cong_times, cong_mod}
 use Rattle.polynomials.specs.Reductions.{Ends, AtMost}
 use Rattle.numbers.proofs.Lists.{filled_more}
+use Rattle.numbers.proofs.Computation.{passes}
 use Rattle.inverting.specs.Series.{catalan, term, Series}
 
 -- x is the term at the place i, up to multiples of k, and leaves room in 32 bits
@@ -27,11 +30,6 @@ pub record Grown (k f2 r : ℕ) (s : List ℕ) (power j : ℕ) : Type 0 where
   pub ends : Ends j s
   pub below : power < k
   pub is : Cong k power (r * ((k - 1) * (f2 * (r * r))) ^ j)
-
-pub zeros : (n : ℕ) → AtMost 0 (replicate n 0)
-zeros zero k = omega arith
-zeros (suc n) zero = omega arith
-zeros (suc n) (suc k) = zeros n k
 
 pub grown_start : (k f2 r : ℕ) (s : List ℕ) → r < k → length s ≡ 14 → AtMost 0 s → Grown k f2 r s r 0
 unfolding term
@@ -54,19 +52,25 @@ minus k f2 r square product step e f g = whole (k - 1) (whole f2 (whole r (cong_
     whole : (a : ℕ) {b c d : ℕ} → Cong k b c → d ≡ a * b % k → Cong k d (a * c)
     whole a {b} h e = cong_eq e ⨾ cong_sym (cong_mod k (a * b)) ⨾ cong_times a h
 
+small : ℕ → Bool
+small j = ltb (get_or catalan j 0) 262144
+
 -- a power below 2 to the 13th times a Catalan number below 2 to the 18th
-pub product_le : (power a : ℕ) → power ≤ 8192 → a < 262144 → power * a ≤ 2147483648
-product_le power a l h = mul-le-mul {n₁ = power} {m₁ = a} {n₂ = 8192} {m₂ = 262144} l (omega arith)
+product_le : (power a j : ℕ) → power ≤ 8192 → j < 13 → a ≡ get_or catalan j 0 → power * a ≤ 2147483648
+unfolding small catalan
+product_le power a j l h e =
+    let few : get_or catalan j 0 < 262144 = ltb→lt (get_or catalan j 0) 262144 (passes 13 small tt j h) in
+    mul-le-mul {n₁ = power} {m₁ = a} {n₂ = 8192} {m₂ = 262144} l (omega arith)
 
 pub grown_turn : (k f2 r step power a next j : ℕ) (s : List ℕ) → k ≤ 8192 → j < 13 → Cong k step ((k - 1) * (f2 * (r * r)))
-    → (a ≡ get_or catalan j 0) × (a < 262144) → (next ≡ power * step % k) × (next < k) → Grown k f2 r s power j → Grown k f2 r (set s (j + 1) (power * a)) next (j + 1)
+    → a ≡ get_or catalan j 0 → (next ≡ power * step % k) × (next < k) → Grown k f2 r s power j → Grown k f2 r (set s (j + 1) (power * a)) next (j + 1)
 unfolding term
-grown_turn k f2 r step power a next j s small l minus (ea, la) (en, ln) g =
+grown_turn k f2 r step power a next j s few l minus ea (en, ln) g =
     record {
       long = length-set s (j + 1) (power * a) ∙ g.long;
       free = get_or-set_other s (j + 1) 0 (power * a) 0 (omega arith) ∙ g.free;
       places =
-          filled_more (TermAt k f2 r) s (j + 1) (power * a) (omega (arith, g.long)) g.places (here, product_le power a (omega (arith, g.below)) la);
+          filled_more (TermAt k f2 r) s (j + 1) (power * a) (omega (arith, g.long)) g.places (here, product_le power a j (omega (arith, g.below)) l ea);
       ends = λ i h. get_or-set_other s (j + 1) i (power * a) 0 (omega arith) ∙ g.ends i (omega arith);
       below = ln;
       is = cong_eq en ⨾ cong_sym (cong_mod k (power * step)) ⨾ cong_mul g.is minus ⨾ cong_eq grown;

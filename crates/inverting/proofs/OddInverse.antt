@@ -1,7 +1,7 @@
 -- The series, brought inside the limits, is the answer.
 use mathlib.Core.Path.{◌≡◌, sym, ap, subst, ◌∙◌}
 use mathlib.Core.List.{List, ◌∷◌}
-use Prim.Native.Nat.{ℕ, ◌≤◌}
+use Prim.Native.Nat.{ℕ, ◌≤◌, ◌<◌}
 use native.Mathlib.Omega.{arith}
 use lib.ListN.{length, drop, length-drop}
 use lib.IntN.{ℤ, pos}
@@ -15,6 +15,7 @@ use Rattle.inverting.specs.Series.{Series}
 use Rattle.triples.specs.declared.Triple.{Triple}
 use Rattle.triples.specs.Shuffles.{f, Shuffle, odd_form}
 use Rattle.polynomials.specs.Inverses.{InversePolynomial, from_first, Inverted}
+use Rattle.numbers.specs.Divisors.{Coprime}
 use Rattle.numbers.specs.Reciprocals.{Reciprocal}
 use Rattle.numbers.proofs.Absorption.{absorbed_power}
 use Rattle.acceptance.proofs.Rule.{odd_unit}
@@ -44,6 +45,10 @@ answer t r D s g a given series reduced degree high long tail = inverted_from a 
         ∙ ap from_first (sym tail)
 
 -- ---- the odd form that was made serves, and its inverse is that of the shuffle
+
+-- what its reciprocal asks
+pub unit_given : {t o : Triple} → Shuffle t → o ≡ odd_form t → (1 < o.k) × (o.k ≤ 8192) × (o.f1 < o.k) × Coprime o.f1 o.k
+unit_given s e = let u = odd_unit s e in (u.range.low, u.range.high, u.range.first, u.coprime)
 
 pub invertible : {t o : Triple} {r : ℕ} → Shuffle t → o ≡ odd_form t → Reciprocal o.k o.f1 r → Invertible o r
 invertible {t} {o} s e reciprocal =

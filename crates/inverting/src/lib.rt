@@ -3,14 +3,15 @@
 
 mod terms;
 
-ghost use Rattle.std.specs.Prelude.{◌≡◌, length, drop};
+ghost use Rattle.std.specs.Prelude.{◌≡◌, drop};
 ghost use Rattle.numbers.specs.Reciprocals.{Reciprocal};
 ghost use Rattle.triples.specs.Shuffles.{f, Shuffle, odd_form};
 ghost use Rattle.polynomials.specs.Inverses.{Inverted};
 
+use std::array;
 use triples::Triple;
 
-// a[0] is a1, the coefficient of y.
+// a[0] is a1, the coefficient of y. The degree stands beside an array and not in the length of a Vec: the library uses no heap.
 #[derive(Drop)]
 pub struct Polynomial {
     pub degree: u32,
@@ -18,17 +19,10 @@ pub struct Polynomial {
 }
 
 // The coefficients from the place 1 on.
-fn without_constant(p: &[u32; 14]) -> [u32; 13]
-    requires { length p.now ≡ 14 }
-    ensures { result ≡ drop 1 p.now }
+fn without_constant(p: [u32; 14]) -> [u32; 13]
+    ensures { result ≡ drop 1 p }
 {
-    let mut a = [0u32; 13];
-    let mut j = 0;
-    while j < 13 {
-        a[j] = p[j + 1];
-        j += 1;
-    }
-    a
+    array::from_fn(|j| p[j + 1])
 }
 
 // The reciprocal of f1 in the odd form.
@@ -51,7 +45,7 @@ pub fn inverse(t: Triple) -> Polynomial
     let top = terms::series(odd.k, odd.f2, r, &mut p);
     polynomials::reduce(odd.k, top, &mut p);
     let degree = polynomials::degree(top, &p);
-    let a = without_constant(&p);
+    let a = without_constant(p);
     Polynomial {
         degree: degree as u32,
         a,

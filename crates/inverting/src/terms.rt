@@ -1,19 +1,11 @@
 // The series that undoes f, before it is brought inside the limits.
-ghost use Rattle.std.specs.Prelude.{◌≡◌, ◌≤◌, ◌<◌, length, get_or};
+ghost use Rattle.std.specs.Prelude.{◌≡◌, ◌≤◌, length};
 ghost use Rattle.polynomials.specs.Reductions.{Ends};
-ghost use Rattle.inverting.specs.Series.{catalan, Series, Blank};
+ghost use Rattle.inverting.specs.Series.{Series, Blank};
 
 const CATALAN: [u32; 13] = [
     1, 1, 2, 5, 14, 42, 132, 429, 1430, 4862, 16796, 58786, 208012,
 ];
-
-// The Catalan number C(j).
-fn catalan_at(j: usize) -> u32
-    requires { j < 13 }
-    ensures { (result ≡ get_or catalan j 0) × (result < 262144) }
-{
-    CATALAN[j]
-}
 
 // The series, written into s, which holds zeros; and its highest place. Once a power is 0 modulo k, so are all that follow. A product
 // of 13 and of 18 bits has 31, and is not brought below k here.
@@ -26,14 +18,12 @@ pub fn series(k: u32, f2: u32, r: u32, s: &mut [u32; 14]) -> usize
     let product = numbers::times(k, f2, square);
     let step = numbers::times(k, minus_one, product);
     let mut power = r;
-    let mut j = 0;
-    while j < 13 {
+    for (j, catalan) in CATALAN.iter().enumerate() {
         if power == 0 {
             return j;
         }
-        s[j + 1] = power * catalan_at(j);
+        s[j + 1] = power * catalan;
         power = numbers::times(k, power, step);
-        j += 1;
     }
     13
 }

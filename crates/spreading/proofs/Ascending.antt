@@ -35,11 +35,6 @@ module _ (φ : ℕ → ℕ) (n : ℕ) where
       let low : n % 2 < 2 = mod-lt n (omega arith) in
       (omega (arith, div-add-mod n 2), omega (arith, div-add-mod n 2))
 
-  pub search_start : {least : ℕ} → 2 ≤ n → least ≡ n / 2 → Searching 1 least
-  search_start h e =
-      let (below, above) = halves in
-      record { low = omega arith; fits = omega arith; top = omega arith; far = λ d x p l w. absurd (omega arith); met = inl e }
-
   -- no two addresses are further apart than half of the circle, and the first two positions are neighbours
   half_largest : {s : ℕ} → 1 ≤ s → 1 ≤ n / 2 → n / 2 ≤ s → (q : ℕ) → Spreads (circular n) φ n q → q ≤ s
   half_largest {s} low some h q spreads =

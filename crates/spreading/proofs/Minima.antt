@@ -1,5 +1,5 @@
 -- The least of many numbers, one after the other.
-use mathlib.Core.Path.{◌≡◌, sym, ap, ap₂, subst, subst₂, ◌∙◌}
+use mathlib.Core.Path.{◌≡◌, sym, ap, ap₂, subst, ◌∙◌}
 use mathlib.Core.Logic.{◌⊎◌, inl, inr}
 use Prim.Native.Nat.{ℕ, ◌+◌, ◌-◌, ◌≤◌, ◌<◌, min, max}
 use native.Mathlib.Decide.{dec_lt, ℕ_discrete}
@@ -52,10 +52,6 @@ pub record Kept (value : ℕ → ℕ) (i n least most : ℕ) : Type 0 where
   pub closest : Least value i n (min least (n - most))
   pub fits : most ≤ n
 
-pub kept_none : (value : ℕ → ℕ) (n : ℕ) → Kept value 0 n n 0
-kept_none value n =
-    record { closest = record { first = omega arith; below = λ x l. absurd (omega arith); met = inl (omega arith) }; fits = omega arith }
-
 pub kept_more : {value : ℕ → ℕ} {i n least most way least' most' : ℕ} (a b : ℕ) → Kept value i n least most → a < n → b < n → value i ≡ circular n a b → way ≡ line a b
     → least' ≡ min least way → most' ≡ max most way → Kept value (i + 1) n least' most'
 kept_more {n = n} {least = least} {most = most} {way = way} a b g la lb here e el em =
@@ -63,6 +59,3 @@ kept_more {n = n} {least = least} {most = most} {way = way} a b g la lb here e e
       closest = least_more g.closest (ap (λ (w : ℕ). min w (n - w)) e ∙ sym here) (ap₂ (λ (p q : ℕ). min p (n - q)) el em ∙ ends n least most way);
       fits = omega (arith, g.fits);
     }
-
-pub kept_all : {value : ℕ → ℕ} {i k n least most r : ℕ} → Kept value i n least most → i ≡ k → r ≡ min least (n - most) → Least value k n r
-kept_all {value} {n = n} g e e' = subst₂ (λ (m c : ℕ). Least value m n c) e (sym e') g.closest

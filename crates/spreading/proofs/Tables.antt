@@ -20,9 +20,6 @@ abbrev pub GoesOn : List ℕ → ℕ → ℕ → ℕ → List ℕ → Type 0
 GoesOn list n places s after = Written (λ i. entry list (i % n)) (places + s - 1) list after
 
 module _ {list : List ℕ} {n places : ℕ} (l : Round list n places) where
-  pub on_start : GoesOn list n places 1 list
-  on_start = record { size = refl; entries = λ i h. l.again i (omega arith); rest = λ i h. refl }
-
   module _ {s least : ℕ} (search : Searching (entry list) n s least) where
     -- a search goes on no further than there is room
     pub on_room : {p : ℕ} {after : List ℕ} → Written (λ i. entry list (i % n)) p list after → places + s ≤ length after

@@ -1,30 +1,12 @@
 // The spread of a shuffle.
 #![tactic(auto)]
 
-ghost use Rattle.std.specs.Prelude.{◌≡◌, ◌+◌, min, max};
+ghost use Rattle.std.specs.Prelude.{◌+◌, ◌<◌, replicate};
 ghost use Rattle.triples.specs.Shuffles.{f, InRange};
-ghost use Rattle.spreading.specs.Spreads.{line, Spread};
+ghost use Rattle.spreading.specs.Spreads.{Spread};
 ghost use Rattle.spreading.specs.Minima.{Least, entry, pair, Addresses, Round, Roomy};
 
 use triples::Triple;
-
-fn lesser(a: u16, b: u16) -> u16
-    ensures { result ≡ min a b }
-{
-    if a < b { a } else { b }
-}
-
-fn greater(a: u16, b: u16) -> u16
-    ensures { result ≡ max a b }
-{
-    if a < b { b } else { a }
-}
-
-fn along(a: u16, b: u16) -> u16
-    ensures { result ≡ line a b }
-{
-    if a < b { b - a } else { a - b }
-}
 
 // The distance round n of the closest addresses at positions d apart, over so many pairs. Round the circle the closest are at the least or at
 // the greatest distance along the line, and to keep both takes less than to go round for each pair.
@@ -34,14 +16,13 @@ fn closest(list: &[u16], n: u16, d: usize, pairs: usize) -> u16
 {
     let mut least = n;
     let mut most = 0;
-    let mut i: usize = 0;
-    while i < pairs {
-        let way = along(list[i], list[i + d]);
-        least = lesser(least, way);
-        most = greater(most, way);
-        i += 1;
+    // By index: over a `zip` of two parts of the list each distance takes some twenty instructions more.
+    for i in 0..pairs {
+        let way = list[i].abs_diff(list[i + d]);
+        least = least.min(way);
+        most = most.max(way);
     }
-    lesser(least, n - most)
+    (n - most).min(least)
 }
 
 // The spread of n addresses, going up from 1: it stops at the first distance that settles it. No two are further apart than half of n. Behind its
@@ -52,11 +33,12 @@ fn search(list: &mut [u16], n: u16, places: usize) -> u16
 {
     let mut least = n / 2;
     let mut s = 1;
+    // A `while`: `least` falls inside the loop, so that no range can be made before it, and one up to n / 2 asks twice at each distance.
     while s < least {
         let d = s as usize;
         let end = places + d - 1;
         list[end] = list[end - n as usize];
-        least = lesser(least, closest(list, n, d, places));
+        least = closest(list, n, d, places).min(least);
         if least <= s {
             return s;
         }
@@ -71,9 +53,18 @@ fn measure(t: Triple, table: &mut [u16]) -> u16
     requires { InRange t × Roomy table.old t.k }
     ensures { Spread (f t) t.k result }
 {
+    // By hand: behind `next_multiple_of` the compiler does not see that 4 divides it, and looks for what is left over.
     let places = (t.k as usize + 3) / 4 * 4;
     triples::fill(t, places, table);
     search(table, t.k as u16, places)
+}
+
+// The same with a table of its own.
+fn measured<const ROOM: usize>(t: Triple) -> u16
+    requires { InRange t × Roomy (replicate ROOM 0) t.k × (ROOM < 65536) }
+    ensures { Spread (f t) t.k result }
+{
+    measure(t, &mut [0u16; ROOM])
 }
 
 // The spread. A short shuffle has a short table, which is cleared sooner.
@@ -81,14 +72,9 @@ pub fn spread(t: Triple) -> u16
     requires { InRange t }
     ensures { Spread (f t) t.k result }
 {
-    if t.k <= 56 {
-        let mut table = [0u16; 64];
-        return measure(t, &mut table);
+    match t.k {
+        ..=56 => measured::<64>(t),
+        ..=256 => measured::<272>(t),
+        _ => measured::<8283>(t),
     }
-    if t.k <= 256 {
-        let mut table = [0u16; 272];
-        return measure(t, &mut table);
-    }
-    let mut table = [0u16; 8283];
-    measure(t, &mut table)
 }

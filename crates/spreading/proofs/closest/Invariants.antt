@@ -1,12 +1,7 @@
--- The invariant: least and most tell the least distance of the pairs before i. The measure is what is left of the pairs, and it falls, since i goes
--- up by one.
-use Prim.Native.Nat.{◌-◌, ◌≤◌}
+-- The invariant: least and most tell the least distance of the pairs before i.
 use Rattle.spreading.specs.Minima.{pair}
 use Rattle.spreading.proofs.Minima.{Kept}
 use Rattle.spreading.proofs.closest.Given as goal
 
 abbrev pub invariant-loop-i : goal.invariant-loop-i
-invariant-loop-i l = Kept (pair l.list l.n l.d) l.i l.n l.least l.most × (l.i ≤ l.pairs)
-
-abbrev pub decreases-loop-i : goal.decreases-loop-i
-decreases-loop-i l = l.pairs - l.i
+invariant-loop-i l = Kept (pair l.list l.n l.d) l.i l.n l.least l.most

@@ -8,7 +8,7 @@ use Rattle.spreading.proofs.Tables.{GoesOn}
 use Rattle.spreading.proofs.search.Given as goal
 
 abbrev pub invariant-loop-s : goal.invariant-loop-s
-invariant-loop-s l = Searching (entry l.initial.list) l.n l.s l.least × GoesOn l.initial.list l.n l.places l.s l.list
+invariant-loop-s l = record { searching : Searching (entry l.initial.list) l.n l.s l.least; on : GoesOn l.initial.list l.n l.places l.s l.list }
 
 abbrev pub decreases-loop-s : goal.decreases-loop-s
 decreases-loop-s l = l.least - l.s

@@ -2,13 +2,13 @@
 use native.Mathlib.Omega.{arith}
 use Rattle.spreading.proofs.spread.Goals as goal
 
-pub measure-requires : goal.measure-requires
-measure-requires c = (c.requires, record { room = 7; within = omega arith; enough = omega arith })
+pub measured-requires : goal.measured-requires
+measured-requires c = (c.requires, record { room = 7; within = omega arith; enough = omega arith }, omega arith)
 
-pub measure-requires-then-t-le256 : goal.measure-requires-then-t-le256
-measure-requires-then-t-le256 c = (c.requires, record { room = 16; within = omega arith; enough = omega arith })
+pub measured-requires-in-0-to-256 : goal.measured-requires-in-0-to-256
+measured-requires-in-0-to-256 c = (c.requires, record { room = 16; within = omega arith; enough = omega arith }, omega arith)
 
-pub measure-requires-2 : goal.measure-requires-2
-measure-requires-2 c =
+pub measured-requires-in_default : goal.measured-requires-in_default
+measured-requires-in_default c =
     let range = c.requires in
-    (range, record { room = 91; within = omega (arith, range.high); enough = omega (arith, range.high) })
+    (range, record { room = 91; within = omega (arith, range.high); enough = omega (arith, range.high) }, omega arith)

@@ -4,8 +4,8 @@ use Prim.Native.Nat.{◌≤◌}
 use Rattle.explaining.proofs.Failures.{Passed}
 use Rattle.explaining.proofs.failing.failing_prime.Given as goal
 
-abbrev pub invariant-primes : goal.invariant-primes
-invariant-primes l = Passed l.t l.rest × (2 ≤ l.rest) × (l.rest ≤ 8192)
+abbrev pub invariant-loop-t : goal.invariant-loop-t
+invariant-loop-t l = record { passed : Passed l.t l.rest; low : 2 ≤ l.rest; high : l.rest ≤ 8192 }
 
-abbrev pub decreases-primes : goal.decreases-primes
-decreases-primes l = l.rest
+abbrev pub decreases-loop-t : goal.decreases-loop-t
+decreases-loop-t l = l.rest
