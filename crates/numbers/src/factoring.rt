@@ -3,7 +3,7 @@ ghost use Rattle.std.specs.Prelude.{◌≤◌};
 ghost use Rattle.numbers.specs.Factors.{LeastPrime, FirstFactor};
 
 // A prime, its full power, and what is left of a number without it.
-#[derive(Drop)]
+#[derive(Clone, Copy)]
 pub struct Factor {
     pub prime: u32,
     pub power: u32,
@@ -14,14 +14,7 @@ fn least_prime(n: u32) -> u32
     requires { (2 ≤ n) × (n ≤ 8192) }
     ensures { LeastPrime n result }
 {
-    let mut p = 2;
-    while p * p <= n {
-        if n % p == 0 {
-            return p;
-        }
-        p += 1;
-    }
-    n
+    (2..n.isqrt() + 1).find(|p| n % *p == 0).unwrap_or(n)
 }
 
 // The least prime of n is divided out of n until it is gone.
