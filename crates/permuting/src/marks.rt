@@ -23,11 +23,7 @@ pub fn clear(s: &mut [u8], n: usize)
     requires { n ≤ length s.old }
     ensures { Cleared n s.old s.new }
 {
-    let mut i = 0;
-    while i < n {
-        s[i] = 0;
-        i += 1;
-    }
+    s[..n].fill(0);
 }
 
 // The first place of the byte that comes after the one of place i, but never past n.
@@ -35,8 +31,7 @@ fn past_byte(i: usize, n: usize) -> usize
     requires { i < n }
     ensures { (i < result) × (result ≤ n) × (result ≤ i / 8 * 8 + 8) }
 {
-    let last = i / 8 * 8 + 7;
-    if last < n { last + 1 } else { n }
+    (i / 8 * 8 + 7).min(n - 1) + 1
 }
 
 // Where the work goes on after a cycle: places that a former cycle passed are marked, and n says that none is left.

@@ -20,7 +20,7 @@ use Rattle.polynomials.proofs.Bounds.{limit_one, limit_first, limit_pos}
 use Rattle.polynomials.proofs.RisingProducts.{nothing_added, rising_past, rising_top, rising_null}
 
 -- what holds of each place after d, and at d, holds of each place after d - 1
-pub after_more : (P : ℕ → Type 0) (d : ℕ) → ((i : ℕ) → d < i → P i) → P d → (i : ℕ) → d - 1 < i → P i
+after_more : (P : ℕ → Type 0) (d : ℕ) → ((i : ℕ) → d < i → P i) → P d → (i : ℕ) → d - 1 < i → P i
 after_more P d after here i l = go (ℕ_discrete i d)
   where
     go : Dec (i ≡ d) → P i

@@ -15,11 +15,9 @@ pub fn limits(k: u32, top: usize) -> [u32; 14]
     ensures { Limits k (top + 1) result }
 {
     let mut m = [k; 14];
-    let mut j = 1;
-    while j <= top {
+    for j in 1..=top {
         let before = m[j - 1];
         m[j] = before / numbers::gcd(before, j as u32);
-        j += 1;
     }
     m
 }
@@ -29,10 +27,8 @@ fn add_rising(rows: &[u32; 78], k: u32, q: &mut [u32; 14], t: u32, n: usize)
     requires { Addable k t n rows.now q.old }
     ensures { Added k t n q.old q.new }
 {
-    let mut j = 1;
-    while j < n {
+    for j in 1..n {
         q[j] += t * (products::rising(rows, n, j) % k);
-        j += 1;
     }
 }
 
@@ -46,8 +42,7 @@ pub fn reduce(k: u32, top: usize, q: &mut [u32; 14])
 {
     let m = limits(k, top);
     let rows = products::rows();
-    let mut n = top;
-    while 0 < n {
+    for n in (1..=top).rev() {
         let a = q[n] % k;
         let limit = m[n];
         q[n] = a;
@@ -56,7 +51,6 @@ pub fn reduce(k: u32, top: usize, q: &mut [u32; 14])
             q[n] = rest;
             add_rising(&rows, k, q, k - (a - rest), n);
         }
-        n -= 1;
     }
 }
 
@@ -65,12 +59,5 @@ pub fn degree(top: usize, p: &[u32; 14]) -> usize
     requires { (top ≤ 13) × Ends top p.now }
     ensures { Degree (wholes p.now) result × (result ≤ 13) }
 {
-    let mut d = top;
-    while 0 < d {
-        if p[d] != 0 {
-            return d;
-        }
-        d -= 1;
-    }
-    0
+    p[..=top].iter().rposition(|a| *a != 0).unwrap_or(0)
 }
