@@ -1,4 +1,5 @@
-// Polynomials modulo K, brought inside the limits of their coefficients. Nothing here knows of a shuffle.
+// Polynomials modulo K, brought inside the limits of their coefficients. Nothing here knows of a shuffle. A polynomial has fourteen
+// places, whatever its degree, since memory is fixed and 13 is the highest degree of an inverse; top says which is the last in use.
 #![tactic(auto)]
 
 mod products;
@@ -23,12 +24,12 @@ pub fn limits(k: u32, top: usize) -> [u32; 14]
 }
 
 // t times the n-th rising product is added to q below the place n. No sum is brought below k here: q comes with room for a product.
-fn add_rising(rows: &[u32; 78], k: u32, q: &mut [u32; 14], t: u32, n: usize)
-    requires { Addable k t n rows.now q.old }
+fn add_rising(k: u32, q: &mut [u32; 14], t: u32, n: usize)
+    requires { Addable k t n q.old }
     ensures { Added k t n q.old q.new }
 {
     for j in 1..n {
-        q[j] += t * (products::rising(rows, n, j) % k);
+        q[j] += t * (products::rising(n, j) % k);
     }
 }
 
@@ -41,7 +42,6 @@ pub fn reduce(k: u32, top: usize, q: &mut [u32; 14])
     ensures { Reduced k (wholes q.old) (wholes q.new) × Ends top q.new × (length q.new ≡ 14) }
 {
     let m = limits(k, top);
-    let rows = products::rows();
     for n in (1..=top).rev() {
         let a = q[n] % k;
         let limit = m[n];
@@ -49,7 +49,7 @@ pub fn reduce(k: u32, top: usize, q: &mut [u32; 14])
         if limit <= a {
             let rest = a % limit;
             q[n] = rest;
-            add_rising(&rows, k, q, k - (a - rest), n);
+            add_rising(k, q, k - (a - rest), n);
         }
     }
 }

@@ -33,7 +33,6 @@ add_rising-requires c =
       some = omega arith;
       inner = omega arith;
       at_most = reducing_room c.requires (omega arith) (c.limits-m.ensures c.loop-n.n (omega arith)) c.loop-n.invariant _ (mod-le _ _);
-      table = c.rows-rows.ensures;
       places = search rules;
     }
 
