@@ -21,9 +21,6 @@ loop-j-preserved c =
     let loop = c.loop-j in
     (search rules, limits_more (omega arith) loop.m loop.j c.gcd.result (omega arith) (omega arith) loop.invariant.1 c.gcd.ensures)
 
-pub returns : goal.returns
-returns c = λ i l. c.loop-j.invariant.1 i (omega arith)
-
 -- past the last place
 pub returns-2 : goal.returns-2
 returns-2 c =
