@@ -2,8 +2,7 @@
 -- no longer in what is left.
 use mathlib.Core.Path.{◌≡◌, sym, ap, ◌∙◌, subst}
 use mathlib.Core.Logic.{◌≢◌, ⊎_elim, by_cases}
-use Rattle.std.proofs.Common.{Option, Some, None, MatchOption, unwrap_or}
-use Prim.Native.Nat.{ℕ, suc, ◌+◌, ◌*◌, ◌/◌, ◌%◌, ◌^◌, ◌≤◌, ◌<◌, ◌∣◌}
+use Prim.Native.Nat.{ℕ, suc, ◌*◌, ◌/◌, ◌%◌, ◌^◌, ◌≤◌, ◌<◌, ◌∣◌}
 use native.Mathlib.Nat.{dvd_refl, dvd_trans, dvd_of_mul-dvd-mul_right, mod-eq-zero_of_dvd, pos_of_dvd_of_pos, le_of_dvd, mul-le-mul_right, one-mul, mul_comm, mul_assoc, mul-le-mul, pow-zero, pow-suc, eq-one_of_dvd-one, div-mul_cancel}
 use native.Mathlib.Decide.{ℕ_discrete, dec_lt, dec_dvd}
 use native.Mathlib.Omega.{arith}
@@ -12,7 +11,7 @@ use Rattle.numbers.specs.PrimePowers.{FullPower}
 use Rattle.numbers.specs.Factors.{LeastPrime, FirstFactor}
 use Rattle.numbers.specs.declared.factoring.Factor.{Factor}
 use Rattle.numbers.proofs.Divisors.{dvd_make, quotient, euclid, factors_pos}
-use Rattle.numbers.proofs.Primes.{NoneBelow, least_found, least_prime_of, prime_factor}
+use Rattle.numbers.proofs.Primes.{NoneBelow, least_prime_of, prime_factor}
 use Rattle.numbers.proofs.PrimePowers.{power_of, power_coprime, power_apart, full_power_of}
 
 -- ---- the least prime of n
@@ -28,13 +27,6 @@ none_to_root {n} {p} pos none small d big lt h =
   where
     at_least : (d : ℕ) → 1 < d → d ∣ n → p ≤ d
     at_least d big h = by_cases (dec_lt d p) (λ lt. absurd (none d big lt h)) (λ ge. omega arith)
-
--- so it is the first divisor from 2 up to the root, and n where there is none
-pub least_to_root : {n : ℕ} (root : ℕ) → 1 < n → n < (root + 1) * (root + 1) → (o : Option ℕ)
-    → MatchOption o ((d : ℕ) → 2 ≤ d → d < root + 1 → ¬ (d ∣ n)) (λ p. (2 ≤ p) × (p < root + 1) × (p ∣ n) × ((d : ℕ) → 2 ≤ d → d < p → ¬ (d ∣ n)))
-    → LeastPrime n (unwrap_or o n)
-least_to_root root big past None none = least_found big (dvd_refl _) (none_to_root big none past)
-least_to_root root big past (Some p) (low, high, h, none) = least_found low h none
 
 -- ---- its full power
 

@@ -10,11 +10,20 @@ pub struct Factor {
     pub rest: u32,
 }
 
+// Most numbers have a small prime: to take the root first, by `isqrt`, costs more than the products it saves.
 fn least_prime(n: u32) -> u32
     requires { (2 ≤ n) × (n ≤ 8192) }
     ensures { LeastPrime n result }
 {
-    (2..n.isqrt() + 1).find(|p| n % *p == 0).unwrap_or(n)
+    for p in 2..n {
+        if n < p * p {
+            break;
+        }
+        if n % p == 0 {
+            return p;
+        }
+    }
+    n
 }
 
 // The least prime of n is divided out of n until it is gone.

@@ -20,11 +20,14 @@ pub fn is_marked(s: &[u8], i: usize) -> bool
 }
 
 // Lent bytes may hold anything, so the work begins with this; and it ends with it, so that nothing of the work is left in them.
+// A `for`: `fill` writes the last byte apart from the others, which takes longer.
 pub fn clear(s: &mut [u8], n: usize)
     requires { n ≤ length s.old }
     ensures { Cleared n s.old s.new }
 {
-    s[..n].fill(0);
+    for byte in &mut s[..n] {
+        *byte = 0;
+    }
 }
 
 // The first place of the byte that comes after the one of place i, but never past n.

@@ -1,16 +1,17 @@
--- The answer rests on `least_to_root`: past the root of n nothing but n is left.
-use Rattle.std.proofs.Common.{◌≡◌, ◌%◌, arith, tests, rules}
-use Rattle.std.specs.Int.{◌∣◌}
-use Rattle.std.proofs.lemmas.Iterator.{first_from_Range}
-use native.Mathlib.Nat.{dvd_of_mod-eq-zero, mod-eq-zero_of_dvd}
-use Rattle.numbers.proofs.Factors.{least_to_root}
+use native.Mathlib.Nat.{dvd_refl, dvd_of_mod-eq-zero, mod-eq-zero_of_dvd}
+use native.Mathlib.Omega.{arith}
+use Rattle.numbers.proofs.Primes.{none_more, least_found}
+use Rattle.numbers.proofs.Factors.{none_to_root}
 use Rattle.numbers.proofs.factoring.least_prime.Goals as goal
 
-pub returns : goal.returns
-returns c =
-    let n = c.args.n in
-    rw c.unwrap_or.ensures
-    (least_to_root c.isqrt.result (omega arith) (omega arith) c.find.result
-    (first_from_Range _ _ _ _ (λ p. p ∣ n) (λ p. ¬ (p ∣ n)) c.find.ensures.ran
-    (λ p q k. dvd_of_mod-eq-zero _ (grind (arith, tests)))
-    (λ p q k. (search rules, λ h. let e : n % p ≡ 0 = mod-eq-zero_of_dvd p h in grind (arith, tests)))))
+pub returns-then-n-p : goal.returns-then-n-p
+returns-then-n-p c = least_found (omega arith) (dvd_refl _) (none_to_root (omega arith) c.loop-p.invariant (omega arith))
+
+pub returns-then-n-p-eq0 : goal.returns-then-n-p-eq0
+returns-then-n-p-eq0 c = least_found (omega arith) (dvd_of_mod-eq-zero _ c.if-n-p-eq0.true) c.loop-p.invariant
+
+pub loop-p-preserved : goal.loop-p-preserved
+loop-p-preserved c = none_more c.loop-p.invariant (λ h. c.if-n-p-eq0.false (mod-eq-zero_of_dvd _ h))
+
+pub returns-after-loop-p : goal.returns-after-loop-p
+returns-after-loop-p c = least_found (omega arith) (dvd_refl _) (λ d big lt. c.loop-p.invariant d big (omega arith))
