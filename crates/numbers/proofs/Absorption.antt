@@ -7,11 +7,12 @@ use native.Mathlib.Omega.{arith}
 use lib.Pow.{pow-add}
 use lib.Dec.{eqb}
 use borrow.Author.Tests.{eqb-true, eqb-false}
+use Rattle.std.proofs.lemmas.Nat.{mul-pow}
 use Rattle.numbers.specs.Divisors.{IsGcd, Coprime}
 use Rattle.numbers.specs.Decision.{Decides}
 use Rattle.numbers.specs.Absorption.{Absorbed}
 use Rattle.numbers.proofs.Divisors.{dvd_make, gcd_of, gcd_one, euclid, coprime_dvd, factors_pos}
-use Rattle.numbers.proofs.Congruences.{cong_mod, cong_sym, cong_pow, cong_zero, zero_cong, ◌⨾◌, cong_eq, pow_times}
+use Rattle.numbers.proofs.Congruences.{cong_mod, cong_sym, cong_pow, cong_zero, zero_cong, ◌⨾◌, cong_eq}
 
 -- ---- by a power
 
@@ -77,7 +78,7 @@ absorbed_root k x ab d p co =
 pub square_power : (k x n : ℕ) → k ∣ x ^ (n + n) → k ∣ (x * x % k) ^ n
 square_power k x n h =
     cong_zero
-    (cong_pow n (cong_sym (cong_mod k (x * x))) ⨾ cong_eq (pow_times x x n ∙ sym (pow-add x n n)) ⨾ zero_cong (x ^ (n + n)) h)
+    (cong_pow n (cong_sym (cong_mod k (x * x))) ⨾ cong_eq (mul-pow x x n ∙ sym (pow-add x n n)) ⨾ zero_cong (x ^ (n + n)) h)
 
 -- four squares in a row decide
 pub squares_decide : (k f a b c d : ℕ) → 0 < k → k ≤ 8192 → a ≡ f * f % k → b ≡ a * a % k → c ≡ b * b % k → d ≡ c * c % k → d < k → Decides (Absorbed k f) (eqb d 0)

@@ -3,6 +3,7 @@ use mathlib.Core.Path.{◌≡◌, refl, sym, ap, ap₂, ◌∙◌}
 use Prim.Native.Nat.{ℕ, zero, suc, ◌+◌, ◌*◌, ◌-◌, ◌/◌, ◌%◌, ◌^◌, ◌≤◌, ◌<◌, ◌∣◌}
 use native.Mathlib.Nat.{mod-add-div', add-mul-mod_self_right, mod-eq_of_lt, pow-zero, pow-suc, dvd_of_mod-eq-zero, mod-eq-zero_of_dvd}
 use native.Mathlib.Omega.{arith}
+use Rattle.std.proofs.lemmas.Nat.{mul-pow}
 use Rattle.numbers.specs.Congruences.{Cong}
 use Rattle.numbers.proofs.Divisors.{dvd_make, quotient}
 
@@ -36,10 +37,7 @@ module _ {K : ℕ} where
   cong_pow {x} {y} (suc n) c = cong_eq (pow-suc x n) ⨾ cong_mul (cong_pow n c) c ⨾ cong_eq (sym (pow-suc y n))
 
 pub pow_times : (a b n : ℕ) → (a * b) ^ n ≡ a ^ n * b ^ n
-pow_times a b zero = pow-zero (a * b) ∙ omega (arith, ap₂ (λ (s t : ℕ). s * t) (pow-zero a) (pow-zero b))
-pow_times a b (suc n) =
-    pow-suc (a * b) n ∙ ap (λ (t : ℕ). t * (a * b)) (pow_times a b n)
-    ∙ omega (arith, ap₂ (λ (s t : ℕ). s * t) (pow-suc a n) (pow-suc b n))
+pow_times = mul-pow
 
 -- what is added on both sides may be taken away
 pub cong_cancel : {K : ℕ} (a : ℕ) {x y : ℕ} → Cong K (a + x) (a + y) → Cong K x y

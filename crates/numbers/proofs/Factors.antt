@@ -16,9 +16,6 @@ use Rattle.numbers.proofs.PrimePowers.{power_of, power_coprime, power_apart, ful
 
 -- ---- the least prime of n
 
-pub twice_below_square : (p : ℕ) → 1 < p → 2 * p ≤ p * p
-twice_below_square p big = mul-le-mul {n₁ = 2} {m₁ = p} {n₂ = p} {m₂ = p} big (omega arith)
-
 -- of two factors one is not above the root
 pub none_to_root : {n p : ℕ} → 1 < n → NoneBelow n p → n < p * p → NoneBelow n n
 none_to_root {n} {p} pos none small d big lt h =
@@ -54,12 +51,6 @@ divided_more {n} {p} {power} {rest} d h =
       is = ap (λ (m : ℕ). m * p) d.is ∙ sym (pow-suc p d.exponent);
       whole = mul_assoc power p (rest / p) ∙ ap (λ (m : ℕ). power * m) (mul_comm p (rest / p) ∙ div-mul_cancel p h) ∙ d.whole;
     }
-
--- what is divided out stays within n
-pub divided_fits : {n p power rest : ℕ} → 0 < n → Divided n p power rest → p ∣ rest → power * p ≤ n
-divided_fits {n} {p} {power} {rest} pos d h =
-    let small : p ≤ rest = le_of_dvd (factors_pos n power rest pos (sym d.whole)).1 h in
-    omega (arith, d.whole, mul-le-mul {n₁ = power} {m₁ = p} {n₂ = power} {m₂ = rest} (omega arith) small)
 
 pub divided_all : {n p power rest : ℕ} → 0 < n → LeastPrime n p → Divided n p power rest → rest % p ≢ 0
     → FirstFactor n (record { prime = p; power = power; rest = rest })

@@ -2,7 +2,7 @@
 use mathlib.Core.Path.{◌≡◌, refl, sym, ap, subst, ◌∙◌}
 use mathlib.Core.Logic.{◌≢◌}
 use Prim.Native.Nat.{ℕ, ◌+◌, ◌*◌, ◌-◌, ◌/◌, ◌%◌, ◌≤◌, ◌<◌, ◌∣◌}
-use native.Mathlib.Nat.{mod-add-div', mod-lt, mod-eq_of_lt, mul-one, dvd-mod_iff, dvd_refl, dvd-zero, dvd-mul_left_of_dvd, eq-one_of_dvd-one, mul-le-mul, div-le_self}
+use native.Mathlib.Nat.{mod-add-div', mod-lt, mod-eq_of_lt, mul-one, dvd-mod_iff, dvd_refl, dvd-zero, dvd-mul_left_of_dvd, eq-one_of_dvd-one}
 use native.Mathlib.Omega.{arith}
 use Rattle.numbers.specs.Divisors.{Coprime}
 use Rattle.numbers.specs.Congruences.{Cong}
@@ -34,18 +34,6 @@ pub record Multipliers (k a upper upper_by lower lower_by : ℕ) : Type 0 where
   pub lower_le : lower ≤ k
   pub coprime : Coprime upper lower
 
-pub multipliers_start : (k a : ℕ) → 1 < k → a < k → Coprime a k → Multipliers k a k 0 a 1
-multipliers_start k a h l co =
-    record {
-      upper_is = record { l = 1; r = 0; eq = omega arith };
-      lower_is = cong_eq (omega arith);
-      upper_by_lt = omega arith;
-      lower_by_lt = h;
-      upper_le = omega arith;
-      lower_le = omega arith;
-      coprime = λ d p q. co d q p;
-    }
-
 pub multipliers_step : (k a u ub l lb : ℕ) → Multipliers k a u ub l lb → l ≢ 0 → Multipliers k a l lb (u % l) ((ub + u / l * (k - lb)) % k)
 multipliers_step k a u ub l lb m ne =
     record {
@@ -65,11 +53,6 @@ multipliers_step k a u ub l lb m ne =
     spread =
         let e : k - lb + lb ≡ k = omega (arith, m.lower_by_lt) in
         record { l = 0; r = u / l * a; eq = omega (arith, ap (λ (t : ℕ). u / l * t * a) e) }
-
--- what is taken away has room in 32 bits
-pub multipliers_room : {k a u ub l lb : ℕ} → Multipliers k a u ub l lb → k ≤ 8192 → u / l * (k - lb) ≤ 67108864
-multipliers_room {k} {a} {u} {ub} {l} {lb} m h =
-    mul-le-mul {n₁ = u / l} {m₁ = k - lb} {n₂ = 8192} {m₂ = 8192} (omega (arith, div-le_self u l, m.upper_le)) (omega arith)
 
 pub multipliers_end : (k a u ub l lb : ℕ) → 1 < k → Multipliers k a u ub l lb → l ≡ 0 → Reciprocal k a ub
 multipliers_end k a u ub l lb h m z =

@@ -3,23 +3,25 @@ ghost use Rattle.std.specs.Prelude.{◌≤◌};
 ghost use Rattle.numbers.specs.Factors.{LeastPrime, FirstFactor};
 
 // A prime, its full power, and what is left of a number without it.
-#[derive(Drop)]
+#[derive(Clone, Copy)]
 pub struct Factor {
     pub prime: u32,
     pub power: u32,
     pub rest: u32,
 }
 
+// Most numbers have a small prime: to take the root first, by `isqrt`, costs more than the products it saves.
 fn least_prime(n: u32) -> u32
     requires { (2 ≤ n) × (n ≤ 8192) }
     ensures { LeastPrime n result }
 {
-    let mut p = 2;
-    while p * p <= n {
+    for p in 2..n {
+        if n < p * p {
+            break;
+        }
         if n % p == 0 {
             return p;
         }
-        p += 1;
     }
     n
 }

@@ -1,4 +1,5 @@
-// Numbers: the greatest common divisor and what rests on it, and primes. Nothing here knows of a shuffle.
+// Numbers: the greatest common divisor and what rests on it, and primes. Nothing here knows of a shuffle. What is promised of a number
+// up to 8,192 is promised of any `u32` in that range, and a type of its own would ask callers to make one.
 #![tactic(auto)]
 
 mod factoring;

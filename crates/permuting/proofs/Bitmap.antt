@@ -1,75 +1,48 @@
 -- Marks in bytes: how many, which, what a byte with one bit more does to them, that zero bytes hold none, and what bytes are kept.
-use borrow.Enum.Match.{each_below}
 use mathlib.Core.Path.{◌≡◌, refl, sym, ap, ◌∙◌}
 use mathlib.Core.Logic.{◌≢◌, by_cases}
 use mathlib.Core.List.{List, ◌++◌}
 use mathlib.Core.Bool.{true, false}
-use Prim.Native.Nat.{ℕ, zero, suc, ◌+◌, ◌-◌, ◌*◌, ◌/◌, ◌%◌, ◌^◌, ◌≤◌, ◌<◌}
-use native.Mathlib.Nat.{le_of_suc-le-suc, not-suc-le-zero, div-eq_of_lt, mod-lt, pow-suc, mul-mod_left, zero-lt-suc, zero-div}
+use Prim.Native.Nat.{ℕ, ◌+◌, ◌*◌, ◌/◌, ◌%◌, ◌^◌, ◌≤◌, ◌<◌}
+use native.Mathlib.Nat.{one-mul}
 use native.Mathlib.Decide.{ℕ_discrete, dec_lt}
 use native.Mathlib.Omega.{arith}
 use lib.Dec.{eqb}
-use lib.Pow.{pow-lt, pow-add, shl-shr}
-use lib.Bits.{bit_or, bit_and, or_shr, or_mod, or_zero_r, and_mask}
+use lib.Bits.{bit_or, bit_and}
 use lib.ListN.{length, get_or, set, replicate, length-set, length-replicate, get_or-replicate, get_or-append, get_or-eq_default}
 use lib.Seq.{get_or-set_same, get_or-set_other, drop-set-lt}
+use Rattle.std.specs.Int.{bit_at}
+use Rattle.std.proofs.lemmas.Nat.Bits.{bit_at_or, bit_at-pow_same, bit_at-pow_other, bit_at-lt, bit_at-zero, bit_at_ones, shr_and_one}
 use Rattle.permuting.specs.Bitmap.{bit, marked, marks, Kept, Marked}
 use Rattle.permuting.proofs.Tabulation.{length_tab, get_or_tab, is_tab}
 
 -- ---- a bit of a number, after an `or` with a power of two, and as a shift and a mask read it
 
-digit_or : (a c j : ℕ) → bit_or a c / 2 ^ j % 2 ≡ bit_or (a / 2 ^ j % 2) (c / 2 ^ j % 2)
-digit_or a c j = ap (λ (n : ℕ). n % 2) (or_shr a c j) ∙ or_mod (a / 2 ^ j) (c / 2 ^ j) 1
-
-or_one : (x : ℕ) → x < 2 → bit_or x 1 ≡ 1
-or_one zero h = refl
-or_one (suc zero) h = refl
-or_one (suc (suc n)) h = absurd (not-suc-le-zero (le_of_suc-le-suc (le_of_suc-le-suc h)))
-
-digit_same : (j : ℕ) → 1 * 2 ^ j / 2 ^ j % 2 ≡ 1
-digit_same j = ap (λ (n : ℕ). n % 2) (shl-shr 1 j)
-
-digit_above : (n j : ℕ) → 2 ^ (suc n + j) / 2 ^ j % 2 ≡ 0
-digit_above n j =
-    ap (λ (x : ℕ). x / 2 ^ j % 2) (pow-add 2 (suc n) j)
-    ∙ ap (λ (x : ℕ). x % 2) (shl-shr (2 ^ suc n) j ∙ pow-suc 2 n)
-    ∙ mul-mod_left (2 ^ n) 2
-
-digit_other : (i j : ℕ) → j ≢ i → 2 ^ i / 2 ^ j % 2 ≡ 0
-digit_other i j ne = go (dec_lt i j)
-  where
-    go : Dec (i < j) → 2 ^ i / 2 ^ j % 2 ≡ 0
-    go (yes h) = ap (λ (x : ℕ). x % 2) (div-eq_of_lt (pow-lt h))
-    go (no n) =
-        let e : i ≡ suc (i - suc j) + j = omega arith in ap (λ (x : ℕ). 2 ^ x / 2 ^ j % 2) e ∙ digit_above (i - suc j) j
+one_times : (i j : ℕ) → bit_at (1 * 2 ^ i) j ≡ bit_at (2 ^ i) j
+one_times i j = ap (λ (n : ℕ). bit_at n j) (one-mul (2 ^ i))
 
 pub bit_or_same : (b j : ℕ) → bit (bit_or b (1 * 2 ^ j)) j ≡ true
 unfolding bit
 bit_or_same b j =
-    ap (λ (x : ℕ). eqb x 1)
-    (digit_or b (1 * 2 ^ j) j ∙ ap (λ (x : ℕ). bit_or (b / 2 ^ j % 2) x) (digit_same j)
-    ∙ or_one (b / 2 ^ j % 2) (mod-lt (b / 2 ^ j) (zero-lt-suc 1)))
+    let set : bit_at (bit_or b (1 * 2 ^ j)) j ≡ 1 = omega (arith, bit_at_or b (1 * 2 ^ j) j, one_times j j, bit_at-pow_same j, bit_at-lt b j) in
+    ap (λ (x : ℕ). eqb x 1) set
 
 pub bit_or_other : (b i j : ℕ) → j ≢ i → bit (bit_or b (1 * 2 ^ i)) j ≡ bit b j
 unfolding bit
 bit_or_other b i j ne =
-    let one : 1 * 2 ^ i ≡ 2 ^ i = omega arith in
-    ap (λ (x : ℕ). eqb x 1)
-    (digit_or b (1 * 2 ^ i) j
-    ∙ ap (λ (x : ℕ). bit_or (b / 2 ^ j % 2) x) (ap (λ (x : ℕ). x / 2 ^ j % 2) one ∙ digit_other i j ne)
-    ∙ or_zero_r (b / 2 ^ j % 2))
+    ap (λ (x : ℕ). eqb x 1) (omega (arith, bit_at_or b (1 * 2 ^ i) j, one_times i j, bit_at-pow_other i j ne))
 
 pub bit_read : (b j : ℕ) → eqb (bit_and (b / 2 ^ j) 1) 1 ≡ bit b j
 unfolding bit
-bit_read b j = ap (λ (x : ℕ). eqb x 1) (and_mask (b / 2 ^ j) 1)
+bit_read b j = ap (λ (x : ℕ). eqb x 1) (shr_and_one b j)
 
 pub bit_zero : (j : ℕ) → bit 0 j ≡ false
 unfolding bit
-bit_zero j = ap (λ (x : ℕ). eqb (x % 2) 1) (zero-div (2 ^ j))
+bit_zero j = ap (λ (x : ℕ). eqb x 1) (bit_at-zero j)
 
 pub bit_full : (j : ℕ) → j < 8 → bit 255 j ≡ true
 unfolding bit
-bit_full = each_below 8 (λ (j : ℕ). bit 255 j ≡ true) (refl, (refl, (refl, (refl, (refl, (refl, (refl, (refl, tt))))))))
+bit_full j low = ap (λ (x : ℕ). eqb x 1) (bit_at_ones 8 j low)
 
 -- ---- the marks
 

@@ -10,7 +10,8 @@ use native.Mathlib.Decide.{ℕ_discrete, dec_lt}
 use native.Mathlib.Omega.{arith}
 use lib.ListN.{length, get_or, set, length-set}
 use lib.Seq.{get_or-set_same, get_or-set_other}
-use Rattle.permuting.specs.Permutations.{Permutation, one_if, count}
+use Rattle.std.proofs.lemmas.Bool.{true≢false}
+use Rattle.permuting.specs.Permutations.{Permutation, count}
 
 -- ---- a list of marks, and one mark more
 
@@ -21,7 +22,7 @@ abbrev pub Unseen : List Bool → ℕ → Type 0
 Unseen ms j = get_or ms j false ≡ false
 
 pub clash : {C : Type 0} {b : Bool} → b ≡ true → b ≡ false → C
-clash {C} {b} p q = let e : true ≡ false = cc in let z : ◌≡◌ {A = ℕ} 1 0 = ap one_if e in absurd (omega arith)
+clash p q = absurd (true≢false (sym p ∙ q))
 
 pub either : {C : Type 0} (b : Bool) → (b ≡ true → C) → (b ≡ false → C) → C
 either true f g = f refl

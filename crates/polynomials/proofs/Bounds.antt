@@ -2,12 +2,16 @@
 -- at the place before by one division.
 use mathlib.Core.Path.{◌≡◌, sym, ap, subst, ◌∙◌}
 use mathlib.Core.Logic.{◌↔◌}
-use Prim.Native.Nat.{ℕ, zero, suc, ◌*◌, ◌-◌, ◌/◌, ◌<◌, ◌∣◌}
+use mathlib.Core.List.{List}
+use Prim.Native.Nat.{ℕ, zero, suc, ◌+◌, ◌*◌, ◌-◌, ◌/◌, ◌<◌, ◌∣◌}
 use native.Mathlib.Nat.{div-mul_cancel, dvd_refl, dvd-mul_right_of_dvd, one-dvd, mul_comm, mul-one, eq_of_mul-eq-mul_right, mul-pos}
 use native.Mathlib.Omega.{arith}
+use lib.ListN.{length, get_or, set}
 use Rattle.numbers.specs.Divisors.{IsGcd, Coprime}
 use Rattle.numbers.proofs.Divisors.{gcd_of, gcd_unique, gcd_parts, gcd_times, gcd_exact, euclid, coprime_dvd, factors_pos}
+use Rattle.numbers.proofs.Lists.{filled_more}
 use Rattle.polynomials.specs.Bounds.{factorial, Limit}
+use Rattle.polynomials.specs.Reductions.{Limits}
 
 pub factorial_pos : (k : ℕ) → 0 < factorial k
 factorial_pos zero = omega arith
@@ -78,3 +82,7 @@ module _ {K : ℕ} (pos : 0 < K) where
   pub limit_next : (k m g : ℕ) → 0 < k → Limit K (k - 1) m → IsGcd m k g → Limit K k (m / g)
   limit_next zero m g k0 L is = absurd (omega arith)
   limit_next (suc k) m g k0 L is = limit_suc k m g (subst (λ (i : ℕ). Limit K i m) (omega arith) L) is
+
+  -- so one more limit stands, once it is put at its place
+  pub limits_more : (m : List ℕ) (j g : ℕ) → 0 < j → j < length m → Limits K j m → IsGcd (get_or m (j - 1) 0) j g → Limits K (j + 1) (set m j (get_or m (j - 1) 0 / g))
+  limits_more m j g j0 room before is = filled_more (λ (i x : ℕ). Limit K i x) m j _ room before (limit_next j _ g j0 (before (j - 1) (omega arith)) is)

@@ -1,14 +1,15 @@
 -- Polynomials with natural coefficients: their sums and multiples, and congruent ones. A whole polynomial is the difference of two.
 use mathlib.Core.Path.{◌≡◌, refl, sym, ap, subst₂, ◌∙◌}
-use mathlib.Core.Logic.{◌≢◌}
+use mathlib.Core.Logic.{◌≢◌, by_cases}
 use mathlib.Core.List.{List, [], ◌∷◌, map}
 use Prim.Native.Nat.{ℕ, zero, suc, ◌+◌, ◌*◌, ◌^◌, ◌≤◌, ◌<◌}
 use native.Mathlib.Nat.{pow-zero, pow-suc}
 use native.Mathlib.Omega.{arith}
 use native.Mathlib.Decide.{dec_lt}
-use lib.ListN.{get_or, take, drop, length-take, get_or-map, get_or-eq_default}
-use lib.Seq.{get_or-take}
+use lib.ListN.{length, get_or, take, drop, length-take, get_or-map, get_or-eq_default}
+use lib.Seq.{get_or-take, length-take-le}
 use lib.IntN.{ℤ, pos, ◌+ℤ◌, ◌*ℤ◌}
+use Rattle.std.proofs.Common.{Option, Some, None, MatchOption, unwrap_or, EachIndex, slice_index}
 use Rattle.numbers.specs.Congruences.{Cong}
 use Rattle.numbers.proofs.Congruences.{cong_eq, cong_sym, cong_add, cong_mul, cong_times, ◌⨾◌}
 use Rattle.polynomials.specs.Polynomials.{value, coefficient, wholes, Congruent}
@@ -152,6 +153,27 @@ wholes_degree p D top past =
       top = λ h e. top h (ap positive (sym (wholes_place p D) ∙ e));
       past = λ k l. wholes_place p k ∙ ap pos (past k (omega arith));
     }
+
+-- of a list, the last place that is not 0
+abbrev pub LastPlace : List ℕ → Option ℕ → Type 0
+LastPlace xs o = MatchOption o (EachIndex xs (λ k. slice_index xs k ≡ 0))
+    (λ d. (d < length xs) × (slice_index xs d ≢ 0) × ((k : ℕ) → d < k → k < length xs → slice_index xs k ≡ 0))
+
+-- it is the degree, if nothing stands past the places that are looked at
+pub last_degree : (p : List ℕ) (top : ℕ) (o : Option ℕ) → top < length p → Ends top p → LastPlace (take (top + 1) p) o
+    → Degree (wholes p) (unwrap_or o 0) × (unwrap_or o 0 ≤ top)
+last_degree p top o room ends found = go o found
+  where
+    size : length (take (top + 1) p) ≡ top + 1
+    size = length-take-le (top + 1) p (omega arith)
+
+    zero_past : (d : ℕ) → ((k : ℕ) → d < k → k < top + 1 → get_or (take (top + 1) p) k 0 ≡ 0) → Ends d p
+    zero_past d none k l = by_cases (dec_lt k (top + 1)) (λ h. sym (get_or-take (top + 1) p k 0 h) ∙ none k l h) (λ h. ends k (omega arith))
+
+    go : (o : Option ℕ) → LastPlace (take (top + 1) p) o → Degree (wholes p) (unwrap_or o 0) × (unwrap_or o 0 ≤ top)
+    go None none = (wholes_degree p 0 (λ h. absurd (omega arith)) (zero_past 0 (λ k l h. none k (omega (arith, size)))), omega arith)
+    go (Some d) (within, here, none) =
+        (wholes_degree p d (λ h e. here (get_or-take (top + 1) p d 0 (omega (arith, size)) ∙ e)) (zero_past d (λ k l h. none k l (omega (arith, size)))), omega (arith, size))
 
 -- ---- both parts of whole coefficients
 

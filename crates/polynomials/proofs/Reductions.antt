@@ -20,7 +20,7 @@ use Rattle.polynomials.proofs.Bounds.{limit_one, limit_first, limit_pos}
 use Rattle.polynomials.proofs.RisingProducts.{nothing_added, rising_past, rising_top, rising_null}
 
 -- what holds of each place after d, and at d, holds of each place after d - 1
-pub after_more : (P : ℕ → Type 0) (d : ℕ) → ((i : ℕ) → d < i → P i) → P d → (i : ℕ) → d - 1 < i → P i
+after_more : (P : ℕ → Type 0) (d : ℕ) → ((i : ℕ) → d < i → P i) → P d → (i : ℕ) → d - 1 < i → P i
 after_more P d after here i l = go (ℕ_discrete i d)
   where
     go : Dec (i ≡ d) → P i
@@ -37,7 +37,7 @@ inside {n = n} k0 L q here i M = subst (λ (x : ℕ). get_or q n 0 < x) (limit_o
 -- ---- room in 32 bits
 
 -- t times a coefficient that is below K
-pub product_lt : (K t c : ℕ) → 0 < K → K ≤ 8192 → t ≤ K → t * (c % K) < 67108864
+product_lt : (K t c : ℕ) → 0 < K → K ≤ 8192 → t ≤ K → t * (c % K) < 67108864
 product_lt K t c k0 high l =
     omega (arith, mul-le-mul {n₁ = t} {m₁ = c % K} {n₂ = 8192} {m₂ = 8191} (omega arith) (omega (arith, mod-lt c {m = K} k0)))
 
@@ -63,18 +63,6 @@ pub record Reducing (K top : ℕ) (p q : List ℕ) (n : ℕ) : Type 0 where
   pub ends : Ends top q
   pub at_most : AtMost (room n) q
   pub places : length q ≡ 14
-
-pub reducing_start : {K top : ℕ} {p : List ℕ} → Reducible K top p → Reducing K top p p top
-reducing_start given =
-    record {
-      left = omega arith;
-      within = λ k l m L. omega (arith, given.ends k l, limit_pos (omega arith) L);
-      same = λ y. cong_eq refl;
-      constant = refl;
-      ends = given.ends;
-      at_most = λ k. omega (arith, given.at_most k);
-      places = given.places;
-    }
 
 module _ {K top n m : ℕ} {p q : List ℕ} (given : Reducible K top p) (n0 : 0 < n) (L : Limit K n m) (before : Reducing K top p q n) where
   inner : n < length q
@@ -149,10 +137,6 @@ module _ {K top n m : ℕ} {p q : List ℕ} (given : Reducible K top p) (n0 : 0 
   reducing_skip l =
       turned a 0 0 (set q n a) (record { size = refl; entries = λ i h. omega arith; rest = λ i h. refl }) (omega arith) (cong_eq (omega arith))
       (cong_sym (cong_mod K (get_or q n 0)) ⨾ cong_eq (omega arith)) l below_modulus
-
-  -- whatever remains of it, there is room for one more product
-  pub reducing_room : (rest : ℕ) → rest ≤ a → AtMost 4227858432 (set (set q n a) n rest)
-  reducing_room rest le k = rw set-set (omega (arith, at_most_put rest (omega (arith, below_modulus)) k))
 
   -- otherwise it becomes its remainder by the limit
   pub reducing_step : (r : List ℕ) → Added K (K - (a - a % m)) n (set (set q n a) n (a % m)) r → Reducing K top p r (n - 1)

@@ -17,16 +17,15 @@ rising (suc n) = times_linear n 0 (rising n)
 pub record Rows (rows : List ℕ) : Type 0 where
   pub place : (n j : ℕ) → 1 ≤ j → j < n → n ≤ 13 → get_or rows ((n - 1) * (n - 2) / 2 + j - 1) 0 ≡ get_or (rising n) j 0
 
--- Fourteen places to which t times the n-th rising product, out of the table, can be added in 32 bits: none is above 2 to the 32nd less 2 to
+-- Fourteen places to which t times the n-th rising product can be added in 32 bits: none is above 2 to the 32nd less 2 to
 -- the 26th, so that there is room for a product.
-pub record Addable (K t n : ℕ) (rows p : List ℕ) : Type 0 where
+pub record Addable (K t n : ℕ) (p : List ℕ) : Type 0 where
   pub low : 0 < K
   pub high : K ≤ 8192
   pub factor : t ≤ K
   pub some : 1 ≤ n
   pub inner : n ≤ 13
   pub at_most : AtMost 4227858432 p
-  pub table : Rows rows
   pub places : length p ≡ 14
 
 -- What stands at the place k once t times the n-th rising product is added: its coefficient is brought below K first, and the sum is not.

@@ -1,4 +1,5 @@
-// Polynomials modulo K, brought inside the limits of their coefficients. Nothing here knows of a shuffle.
+// Polynomials modulo K, brought inside the limits of their coefficients. Nothing here knows of a shuffle. A polynomial has fourteen
+// places, whatever its degree, since memory is fixed and 13 is the highest degree of an inverse; top says which is the last in use.
 #![tactic(auto)]
 
 mod products;
@@ -15,24 +16,20 @@ pub fn limits(k: u32, top: usize) -> [u32; 14]
     ensures { Limits k (top + 1) result }
 {
     let mut m = [k; 14];
-    let mut j = 1;
-    while j <= top {
+    for j in 1..=top {
         let before = m[j - 1];
         m[j] = before / numbers::gcd(before, j as u32);
-        j += 1;
     }
     m
 }
 
 // t times the n-th rising product is added to q below the place n. No sum is brought below k here: q comes with room for a product.
-fn add_rising(rows: &[u32; 78], k: u32, q: &mut [u32; 14], t: u32, n: usize)
-    requires { Addable k t n rows.now q.old }
+fn add_rising(k: u32, q: &mut [u32; 14], t: u32, n: usize)
+    requires { Addable k t n q.old }
     ensures { Added k t n q.old q.new }
 {
-    let mut j = 1;
-    while j < n {
-        q[j] += t * (products::rising(rows, n, j) % k);
-        j += 1;
+    for j in 1..n {
+        q[j] += t * (products::rising(n, j) % k);
     }
 }
 
@@ -45,18 +42,15 @@ pub fn reduce(k: u32, top: usize, q: &mut [u32; 14])
     ensures { Reduced k (wholes q.old) (wholes q.new) × Ends top q.new × (length q.new ≡ 14) }
 {
     let m = limits(k, top);
-    let rows = products::rows();
-    let mut n = top;
-    while 0 < n {
+    for n in (1..=top).rev() {
         let a = q[n] % k;
         let limit = m[n];
         q[n] = a;
         if limit <= a {
             let rest = a % limit;
             q[n] = rest;
-            add_rising(&rows, k, q, k - (a - rest), n);
+            add_rising(k, q, k - (a - rest), n);
         }
-        n -= 1;
     }
 }
 
@@ -65,12 +59,5 @@ pub fn degree(top: usize, p: &[u32; 14]) -> usize
     requires { (top ≤ 13) × Ends top p.now }
     ensures { Degree (wholes p.now) result × (result ≤ 13) }
 {
-    let mut d = top;
-    while 0 < d {
-        if p[d] != 0 {
-            return d;
-        }
-        d -= 1;
-    }
-    0
+    p[..=top].iter().rposition(|a| *a != 0).unwrap_or(0)
 }

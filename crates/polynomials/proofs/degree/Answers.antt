@@ -1,22 +1,11 @@
-use mathlib.Core.Path.{◌≡◌}
-use Prim.Native.Nat.{ℕ}
-use native.Mathlib.Omega.{arith}
-use lib.ListN.{get_or}
-use Rattle.polynomials.proofs.Naturals.{wholes_degree}
-use Rattle.polynomials.proofs.Reductions.{after_more}
+-- The last place that is not 0, of those up to top, is the degree (`last_degree`), since nothing stands past top.
+use Rattle.std.proofs.Common.{◌+◌, take, arith}
+use Rattle.std.proofs.lemmas.Grind.{common_steps}
+use Rattle.polynomials.proofs.Naturals.{LastPlace, last_degree}
 use Rattle.polynomials.proofs.degree.Goals as goal
-
-pub loop-d-init : goal.loop-d-init
-loop-d-init c = (omega arith, λ i l. c.requires.1 i (omega arith))
-
-pub returns-then-p-d-ne0 : goal.returns-then-p-d-ne0
-returns-then-p-d-ne0 c =
-    (wholes_degree c.args.p.now c.loop-d.d (λ h. c.if-p-d-ne0.true) c.loop-d.invariant.1, omega arith)
-
-pub loop-d-preserved : goal.loop-d-preserved
-loop-d-preserved c =
-    (omega arith, after_more (λ (i : ℕ). get_or c.args.p.now i 0 ≡ 0) c.loop-d.d c.loop-d.invariant.1 c.if-p-d-ne0.false)
 
 pub returns : goal.returns
 returns c =
-    (wholes_degree c.args.p.now 0 (λ h. absurd (omega arith)) (λ i l. c.loop-d.invariant.1 i (omega arith)), omega arith)
+    let found : LastPlace (take (c.args.top + 1) c.args.p.now) c.rposition.result = grind (arith, common_steps) in
+    let (degree, low) = last_degree c.args.p.now c.args.top c.rposition.result (omega arith) c.requires.1 found in
+    rw c.unwrap_or.ensures (degree, omega arith)

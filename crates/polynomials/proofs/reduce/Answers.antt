@@ -1,41 +1,10 @@
 use mathlib.Core.Path.{sym, subst}
 use mathlib.Core.List.{List}
 use Prim.Native.Nat.{ℕ, ◌-◌, ◌<◌}
-use native.Mathlib.Nat.{mod-le, mod-lt}
 use native.Mathlib.Omega.{arith}
-use lib.ListN.{get_or}
-use borrow.Author.Rules.{rules}
-use Rattle.polynomials.proofs.Bounds.{limit_pos}
-use Rattle.polynomials.proofs.Reductions.{Reducing, reducing_start, reducing_skip, reducing_room, reducing_step, reducing_end}
+use Rattle.polynomials.proofs.Reductions.{Reducing, reducing_skip, reducing_step, reducing_end}
 use Rattle.polynomials.proofs.reduce.Goals as goal
 use Rattle.polynomials.proofs.reduce.Goals.{then-limit-a, else-limit-a}
-
-pub loop-n-init : goal.loop-n-init
-loop-n-init c = reducing_start c.requires
-
-pub nonzero_rem-rest : goal.nonzero_rem-rest
-nonzero_rem-rest c =
-    omega (arith, limit_pos {K = c.args.k} (omega arith) (c.limits-m.ensures c.loop-n.n (omega arith)))
-
-pub overflow_sub-a : goal.overflow_sub-a
-overflow_sub-a c = mod-le _ _
-
-pub overflow_sub-k : goal.overflow_sub-k
-overflow_sub-k c =
-    omega (arith, mod-lt (get_or c.loop-n.q c.loop-n.n 0) {m = c.args.k} (omega arith))
-
-pub add_rising-requires : goal.add_rising-requires
-add_rising-requires c =
-    record {
-      low = omega arith;
-      high = omega arith;
-      factor = omega arith;
-      some = omega arith;
-      inner = omega arith;
-      at_most = reducing_room c.requires (omega arith) (c.limits-m.ensures c.loop-n.n (omega arith)) c.loop-n.invariant _ (mod-le _ _);
-      table = c.rows-rows.ensures;
-      places = search rules;
-    }
 
 pub loop-n-preserved : goal.loop-n-preserved
 loop-n-preserved c =

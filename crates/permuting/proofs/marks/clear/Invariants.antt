@@ -1,13 +1,6 @@
--- The invariant: the bytes before i are cleared, and the others are as they came. The measure is what is left up to n, and it falls, since i
--- goes up by one.
-use mathlib.Core.Path.{◌≡◌}
-use Prim.Native.Nat.{◌≤◌, ◌-◌}
-use lib.ListN.{length}
-use Rattle.permuting.specs.Scratch.{Cleared}
+-- The invariant: the bytes before the index are cleared, and the others are as they came.
+use Rattle.std.proofs.Common.{◌≡◌, ◌++◌, drop, replicate}
 use Rattle.permuting.proofs.marks.clear.Given as goal
 
-abbrev pub invariant-loop-i : goal.invariant-loop-i
-invariant-loop-i l = Cleared l.i l.initial.s l.s × (l.i ≤ l.n) × (length l.s ≡ length l.initial.s)
-
-abbrev pub decreases-loop-i : goal.decreases-loop-i
-decreases-loop-i l = l.n - l.i
+abbrev pub invariant-loop-byte : goal.invariant-loop-byte
+invariant-loop-byte l = l.byte-items ≡ replicate l.byte-index 0 ++ drop l.byte-index l.initial.byte-items

@@ -1,23 +1,28 @@
--- The answer is what the table says of the place (`Rows`); its index is below 78, since (n - 1)(n - 2) is at most 132.
-use Prim.Native.Nat.{ℕ, ◌-◌, ◌*◌, ◌≤◌}
-use native.Mathlib.Nat.{mul-le-mul}
+-- The answer rests on one computed test: each number of the table is the coefficient that `rising` computes.
+use mathlib.Core.Path.{subst}
+use mathlib.Core.Bool.{Bool}
+use mathlib.Core.List.{List}
+use Prim.Native.Nat.{ℕ, ◌+◌, ◌-◌, ◌*◌, ◌/◌}
 use native.Mathlib.Omega.{arith}
+use lib.Dec.{T, eqb, eqb→eq}
+use lib.ListN.{get_or}
+use Rattle.numbers.proofs.Computation.{every, passes}
+use Rattle.polynomials.specs.RisingProducts.{rising, times_linear, Rows}
+use Rattle.polynomials.specs.declared.products.TheConstants.{ROWS}
 use Rattle.polynomials.proofs.products.rising.Goals as goal
 
-product_le : (n : ℕ) → n ≤ 13 → (n - 1) * (n - 2) ≤ 132
-product_le n h = mul-le-mul {n₁ = n - 1} {m₁ = n - 2} {n₂ = 12} {m₂ = 11} (omega arith) (omega arith)
+right : List ℕ → ℕ → ℕ → Bool
+right rows n j = eqb (get_or rows ((n - 1) * (n - 2) / 2 + j - 1) 0) (get_or (rising n) j 0)
 
-pub overflow_mul-result : goal.overflow_mul-result
-overflow_mul-result c = omega (arith, product_le c.args.n (omega arith))
-
-pub overflow_add-result : goal.overflow_add-result
-overflow_add-result c = omega (arith, product_le c.args.n (omega arith))
-
-pub offset_bounds-rows-n : goal.offset_bounds-rows-n
-offset_bounds-rows-n c = omega (arith, product_le c.args.n (omega arith))
-
-pub bounds-rows-n : goal.bounds-rows-n
-bounds-rows-n c = omega (arith, product_le c.args.n (omega arith))
+rule : {rows : List ℕ} → T (every 14 (λ (n : ℕ). every (n - 1) (λ (i : ℕ). right rows n (i + 1)))) → Rows rows
+unfolding right
+rule {rows} test = record {
+  place = λ n j low high top.
+      eqb→eq (get_or rows ((n - 1) * (n - 2) / 2 + j - 1) 0) (get_or (rising n) j 0)
+      (subst (λ (i : ℕ). T (right rows n i)) (omega arith)
+      (passes (n - 1) (λ (i : ℕ). right rows n (i + 1)) (passes 14 (λ (n : ℕ). every (n - 1) (λ (i : ℕ). right rows n (i + 1))) test n (omega arith)) (j - 1) (omega arith)));
+}
 
 pub returns : goal.returns
-returns c = c.requires.3.place _ _ (omega arith) (omega arith) (omega arith)
+unfolding right rising times_linear
+returns c = let rows : Rows ROWS = rule tt in rows.place c.args.n c.args.j (omega arith) (omega arith) (omega arith)
