@@ -13,9 +13,7 @@ use Rattle.triples.specs.declared.Triple.{Triple}
 use Rattle.triples.specs.Shuffles.{quadratic}
 use Rattle.maps.specs.declared.Map.{Map}
 use Rattle.maps.specs.Maps.{MapOf}
-use Rattle.explaining.specs.Reasons.{FirstCollision}
 use Rattle.explaining.specs.Searches.{along, Unmarked, Searchable}
-use Rattle.explaining.proofs.Collisions.{collision_as}
 
 -- zero bytes hold no mark
 pub zeros_unmarked : (k n : ℕ) → k ≤ n * 8 → Unmarked k (replicate n 0)
@@ -33,6 +31,3 @@ module _ {t : Triple} {m : Map} (of : MapOf t m) where
         collides = λ permutes. not (permutes_as (along m) (quadratic t) of.size of.places permutes);
         bytes = zeros_unmarked m.k 1024 (omega (arith, of.sound.few));
       }
-
-  pub collision_of : {y x address : ℕ} → FirstCollision (along m) y x address → FirstCollision (quadratic t) y x address
-  collision_of = collision_as (along m) (quadratic t) of.size of.places

@@ -5,8 +5,8 @@ use mathlib.Core.List.{List, ◌++◌}
 use Prim.Native.Nat.{ℕ, ◌+◌, ◌-◌, ◌≤◌, ◌<◌}
 use native.Mathlib.Decide.{ℕ_discrete, dec_lt}
 use native.Mathlib.Omega.{arith}
-use lib.ListN.{length, get_or, set, take, length-set, length-append, get_or-append}
-use lib.Seq.{get_or-set_same, get_or-set_other, get_or-append-add, ext_get_or, length-take-le}
+use lib.ListN.{length, get_or, set, length-set, length-append, get_or-append}
+use lib.Seq.{get_or-set_same, get_or-set_other, get_or-append-add, ext_get_or}
 use Rattle.numbers.specs.Lists.{Written}
 
 -- what holds of what is put at j, and of what stands at another place i, holds at i afterwards
@@ -47,9 +47,6 @@ written_one {rule} {n} {before} {a} {b} p q = ext_get_or 0 a b (p.size ∙ sym q
 -- by another rule that says the same below n
 pub written_same : {rule rule' : ℕ → ℕ} {n : ℕ} {before after : List ℕ} → ((i : ℕ) → i < n → rule i ≡ rule' i) → Written rule n before after → Written rule' n before after
 written_same e w = record { size = w.size; entries = λ i h. w.entries i h ∙ e i h; rest = w.rest }
-
-pub written_take : {rule : ℕ → ℕ} {n : ℕ} {before after : List ℕ} → Written rule n before after → n ≤ length before → length (take n after) ≡ n
-written_take {n = n} {after = after} w fits = length-take-le n after (omega (arith, w.size))
 
 -- what is written at the front of a list
 pub written_front : (rule : ℕ → ℕ) (n : ℕ) (room list rest : List ℕ) → length room ≡ n → length list ≡ n → ((i : ℕ) → i < n → get_or list i 0 ≡ rule i)

@@ -144,10 +144,6 @@ module _ {w : Direction} {A : Type 0} {d : A} {k : ℕ} {π : ℕ → ℕ} {old 
         along = f;
       }
 
-  -- a cycle is entered with the symbol at its start in hand
-  pub cycle_enter : {held : A} → start < k → held ≡ get_or xs₀ start d → Cycle w d k π xs₀ s₀ start xs₀ s₀ start held
-  cycle_enter h e = cycle (λ old clean b'. enter b' h e)
-
   -- the walk ends, since there is a mark more
   pub cycle_fewer : {s s' : List ℕ} {xs : List A} {i : ℕ} {held : A} → Cycle w d k π xs₀ s₀ start xs s i held → Marked i s s'
       → unseen k s' < unseen k s

@@ -7,7 +7,7 @@ use native.Mathlib.Decide.{ℕ_discrete}
 use native.Mathlib.Omega.{arith}
 use lib.Dec.{T}
 use Rattle.refusals.specs.Refusals.{Test, First, Answer}
-use Rattle.refusals.proofs.Tests.{first_one, stays, goes_on, numbered}
+use Rattle.refusals.proofs.Tests.{first_one, goes_on, numbered}
 
 module _ {tests own : List Test} {Done Nothing : Type 0} where
   -- what the tests gave is refused
@@ -23,10 +23,6 @@ module _ {tests own : List Test} {Done Nothing : Type 0} where
   pub answering : {n : ℕ} → First (tests ++ own) n → n ≡ 0 → Done → Answer tests own 0 Done Nothing
   answering first z done =
       record { first = subst (λ (k : ℕ). First (tests ++ own) k) z first; done = λ _. done; refused = λ ne. absurd (omega arith) }
-
-  -- the first tests refuse
-  pub refuse_early : {n m : ℕ} → m ≡ n → First tests n → n ≢ 0 → Nothing → Answer tests own m Done Nothing
-  refuse_early e first ne nothing = refusing e (stays tests own first ne) ne nothing
 
   -- they pass, and those of its own refuse
   pub refuse_late : {n l m : ℕ} → T (numbered tests) → First tests n → n ≡ 0 → m ≡ l → First own l → l ≢ 0 → Nothing → Answer tests own m Done Nothing

@@ -1,13 +1,12 @@
 -- The largest of some numbers, found one after the other.
 use mathlib.Core.Path.{◌≡◌, refl, ◌∙◌, subst, sym}
-use mathlib.Core.Logic.{◌⊎◌, inl, inr, ⊎_elim}
+use mathlib.Core.Logic.{◌⊎◌, inl, inr}
 use mathlib.Core.List.{List}
 use Prim.Native.Nat.{ℕ, ◌+◌, ◌≤◌, ◌<◌}
 use Rattle.std.specs.Prelude.{max}
 use native.Mathlib.Decide.{ℕ_discrete}
 use native.Mathlib.Omega.{arith}
-use lib.ListN.{length, get_or}
-use Rattle.refusals.specs.Refusals.{no_bits}
+use lib.ListN.{get_or}
 use Rattle.refusals.specs.Largest.{Largest}
 
 pub largest_none : {list : List ℕ} → Largest list 0 0
@@ -32,10 +31,3 @@ largest_more {list} {n} {most} {r} s e =
     taken (inl e) (inl z) = inl (e ∙ z)
     taken (inl e) (inr (i, h, there)) = inr (i, omega arith, there ∙ sym e)
     taken (inr e) _ = inr (n, omega arith, sym e)
-
--- where the largest is above 1, one is; where it is not, none is
-pub some_above : {list : List ℕ} {most : ℕ} → Largest list (length list) most → 1 < most → (no_bits list).applies
-some_above l h = ⊎_elim (λ z. absurd (omega arith)) (λ o. (o.0, o.1, omega (arith, o.2))) l.one
-
-pub none_above : {list : List ℕ} {most : ℕ} → Largest list (length list) most → most ≤ 1 → ¬ (no_bits list).applies
-none_above l h some = omega (arith, l.above some.0 some.1, some.2)

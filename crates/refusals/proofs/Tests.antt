@@ -1,10 +1,10 @@
 -- Laws of any list of tests: one number is given, a number stays whatever follows, tests that do not apply are passed, and a list splits.
-use mathlib.Core.Path.{◌≡◌, sym, ap, subst, ◌∙◌}
+use mathlib.Core.Path.{◌≡◌, sym, subst, ◌∙◌}
 use mathlib.Core.Logic.{◌≢◌, inl, inr}
 use mathlib.Core.Bool.{Bool, true, false, cond}
 use mathlib.Core.List.{List, [], ◌∷◌, ◌++◌}
 use Prim.Native.Nat.{ℕ}
-use lib.Dec.{T, eqb, eqb→eq}
+use lib.Dec.{T, eqb}
 use borrow.Author.Tests.{eq-eqb}
 use Rattle.refusals.specs.Refusals.{Test, First}
 
@@ -15,10 +15,6 @@ first_one (test ∷ more) (inl p) (inl q) = p.0 ∙ sym q.0
 first_one (test ∷ more) (inl p) (inr q) = absurd (q.0 p.1)
 first_one (test ∷ more) (inr p) (inl q) = absurd (p.0 q.1)
 first_one (test ∷ more) (inr p) (inr q) = first_one more p.1 q.1
-
--- whether it is 0 tells whether no test applies
-pub none_applies : (tests : List Test) (n : ℕ) → First tests n → (eqb n 0 ≡ true → First tests 0) × (First tests 0 → eqb n 0 ≡ true)
-none_applies tests n f = (λ e. subst (λ (m : ℕ). First tests m) (eqb→eq n 0 (subst T (sym e) tt)) f, λ z. ap (λ (m : ℕ). eqb m 0) (first_one tests f z))
 
 -- a refusal stays one, whatever tests follow
 pub stays : (tests more : List Test) {n : ℕ} → First tests n → n ≢ 0 → First (tests ++ more) n

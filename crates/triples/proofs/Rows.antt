@@ -8,7 +8,7 @@ use lib.ListN.{length, set, length-set}
 use Rattle.numbers.specs.Congruences.{Cong}
 use Rattle.numbers.specs.Lists.{Written}
 use Rattle.numbers.proofs.Congruences.{cong_eq, cong_sym, cong_same, cong_add, cong_mod, ◌⨾◌}
-use Rattle.numbers.proofs.Lists.{written_none, written_more}
+use Rattle.numbers.proofs.Lists.{written_more}
 use Rattle.triples.specs.declared.Triple.{Triple}
 use Rattle.triples.specs.declared.striding.Stride.{Stride}
 use Rattle.triples.specs.Shuffles.{f}
@@ -52,9 +52,6 @@ pub record Listing (n : ℕ) (before list : List ℕ) (start s : Stride) (x : �
   pub written : (t : Triple) → At t 0 start → Written (f t) x before list
   pub at : (t : Triple) → At t 0 start → At t x s
 
-pub listing_start : {n : ℕ} {list : List ℕ} {start : Stride} → Sound start → Listing n list list start start 0
-listing_start sound = record { sound = sound; within = omega arith; size = refl; written = λ t _. written_none; at = λ t at. at }
-
 pub listing_step : {n : ℕ} {before list : List ℕ} {start s next : Stride} {x : ℕ} → Listing n before list start s x → x < n → x < length list → Follows s next
     → Listing n before (set list x s.address) start next (x + 1)
 listing_step {list = list} {s = s} {x = x} l below room follows =
@@ -65,7 +62,3 @@ listing_step {list = list} {s = s} {x = x} l below room follows =
       written = λ t begun. written_more s.address (l.written t begun) room (l.at t begun).address;
       at = λ t begun. follows.goes t x (l.at t begun);
     }
-
-pub listing_end : {n : ℕ} {before list : List ℕ} {start s : Stride} {x : ℕ} (t : Triple) → Listing n before list start s x → n ≤ x → At t 0 start
-    → Written (f t) n before list
-listing_end {n = n} {x = x} t s h begun = let e : x ≡ n = omega arith in rw e at (s.written t begun)

@@ -18,9 +18,6 @@ sum t x = t.f1 * x + t.f2 * (x * x)
 pub line_small : (a x : ℕ) → a ≤ 8191 → x ≤ 8191 → a * x ≤ 8191 * 8191
 line_small a x h l = mul-le-mul {n₁ = a} {m₁ = x} h l
 
-pub square_small : (a x : ℕ) → a ≤ 8191 → x ≤ 8191 → a * (x * x) ≤ 8191 * (8191 * 8191)
-square_small a x h l = mul-le-mul {n₁ = a} {m₁ = x * x} h (line_small x x l l)
-
 -- f1 + f2·(x + y), at y = x + d
 abbrev pub slope : Triple → ℕ → ℕ → ℕ
 slope t x d = t.f1 + t.f2 * (2 * x + d)
