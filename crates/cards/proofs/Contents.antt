@@ -12,16 +12,13 @@ use Rattle.refusals.specs.Refusals.{Acceptance}
 use Rattle.refusals.proofs.Acceptance.{acceptance_one}
 use Rattle.cards.specs.declared.composing.Facts.{Facts}
 use Rattle.cards.specs.Texts.{Appended, Wrote}
-use Rattle.cards.specs.Cards.{Reads, Unreadable, unreadable_card, refused_word, ok_word, row, FactsOf, told, TripleCard, refused, accepted, CardOf, unreadable, readable}
+use Rattle.cards.specs.Cards.{Reads, refused_word, ok_word, row, FactsOf, told, TripleCard, refused, accepted, CardOf, unreadable, readable}
 use Rattle.cards.proofs.Buffers.{wrote_as, wrote_one}
 use Rattle.cards.proofs.Grammar.{reads_one}
 
 -- ---- the kinds of card, as they are written
 
 module _ {before after : List ℕ} {at end : ℕ} where
-  pub card_unreadable : {line : List ℕ} → Unreadable line → Appended before at unreadable_card after end → Wrote (CardOf line) before at after end
-  card_unreadable none w = record { text = unreadable_card; such = unreadable none refl; written = w }
-
   pub card_readable : {line : List ℕ} {t : Triple} → Reads line t → Wrote (TripleCard t) before at after end → Wrote (CardOf line) before at after end
   card_readable {line} {t} r w = wrote_as (λ text c. readable t r c) w
 

@@ -118,9 +118,8 @@ pub fn card(line: &[u8], out: &mut [u8], at: usize) -> usize
     requires { at + room ≤ length out.old }
     ensures { Wrote (CardOf line.now) out.old at out.new result }
 {
-    let reading = read(line);
-    if reading.readable {
-        return of_triple(reading.triple, out, at);
+    match read(line) {
+        Some(t) => of_triple(t, out, at),
+        None => unreadable(out, at),
     }
-    unreadable(out, at)
 }

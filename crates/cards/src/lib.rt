@@ -9,5 +9,5 @@ mod writing;
 
 pub use composing::{Facts, card};
 pub use lines::Line;
-pub use reading::{Reading, read};
+pub use reading::read;
 pub use streaming::{Fed, ROOM, feed, finish};
