@@ -5,9 +5,7 @@ ghost use Rattle.cards.specs.Output.{Output, WroteFor, Prints, FedBy};
 
 use crate::composing::unreadable;
 use crate::lines::Line;
-
-// Enough for any card.
-pub const ROOM: usize = 256;
+use crate::writing::ROOM;
 
 // The line that has not ended, and where its cards end in the buffer.
 #[derive(Drop)]
@@ -66,5 +64,5 @@ pub fn finish(line: Line, out: &mut [u8], at: usize) -> usize
     if line.size == 0 {
         return at;
     }
-    unreadable(out, at)
+    unreadable().write(out, at)
 }

@@ -7,4 +7,4 @@ pub returns-then-line-eq0 : goal.returns-then-line-eq0
 returns-then-line-eq0 c = ended_clean (omega arith) (omega arith)
 
 pub returns : goal.returns
-returns c = ended_cut (omega arith) c.unreadable.ensures
+returns c = ended_cut (omega arith) (rw c.unreadable.ensures at c.write.ensures)
