@@ -2,14 +2,13 @@
 use mathlib.Core.Path.{◌≡◌, refl, sym, ap₂, subst, ◌∙◌}
 use mathlib.Core.Logic.{◌≢◌, inl, inr}
 use mathlib.Core.List.{List, [], ◌∷◌, ◌++◌, append_assoc, append-nil}
-use Prim.Native.Nat.{ℕ, ◌+◌, ◌-◌, ◌≤◌, ◌<◌}
-use native.Mathlib.Decide.{ℕ_discrete}
+use Prim.Native.Nat.{ℕ, ◌+◌, ◌≤◌, ◌<◌}
 use native.Mathlib.Omega.{arith}
 use lib.ListN.{length, get_or, take}
 use Rattle.cards.specs.declared.lines.Line.{Line}
 use Rattle.cards.specs.Texts.{newline, Appended, Wrote}
-use Rattle.cards.specs.Cards.{room, unreadable_card, CardOf}
-use Rattle.cards.specs.Output.{ending, Output, Holding, WroteFor, Goes, Prints, FedBy}
+use Rattle.cards.specs.Cards.{unreadable_card, CardOf}
+use Rattle.cards.specs.Output.{ending, Output, Holding, WroteFor, Goes, Prints}
 use Rattle.cards.proofs.Buffers.{take_next, appended_none, appended_then, wrote_as}
 use Rattle.cards.proofs.Contents.{card_one}
 
@@ -92,19 +91,6 @@ feeding_turn {piece} {before} {out} {after} {at} {end} {taken} {end'} {unended} 
           };
           written = appended_then a.written b.written;
         }
-
-pub feeding_end : {piece before out : List ℕ} {at end taken : ℕ} {unended line : Line} → Feeding piece before at unended out line end taken
-    → (at + room ≤ length before → 1 ≤ length piece → 1 ≤ taken)
-    → FedBy piece unended before at (record { taken = taken; line = line; end = end }) out
-feeding_end g moves = record { took = g.took; within = g.within; moves = moves }
-
--- a stop for want of room comes after something was taken
-pub moved : {at end taken : ℕ} (size : ℕ) → (taken ≡ 0 → end ≡ at) → size - end < room → at + room ≤ size → 1 ≤ taken
-moved {at} {end} {taken} size unmoved little enough = pick (ℕ_discrete taken 0)
-  where
-    pick : Dec (taken ≡ 0) → 1 ≤ taken
-    pick (yes z) = absurd (omega (arith, unmoved z))
-    pick (no z) = omega arith
 
 -- ---- the end of the input
 
