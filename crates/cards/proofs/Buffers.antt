@@ -4,8 +4,8 @@ use mathlib.Core.List.{List, [], ◌∷◌, ◌++◌, append_assoc, append-nil}
 use Prim.Native.Nat.{ℕ, ◌+◌, ◌≤◌, ◌<◌}
 use native.Mathlib.Numerals.{add-one}
 use native.Mathlib.Omega.{arith}
-use lib.ListN.{length, get_or, set, take, drop, length-append, length-drop, take-append-drop}
-use lib.Seq.{length-take-le, take_at, drop-append-add, drop-drop, set_split, take-suc}
+use lib.ListN.{length, get_or, take, drop, length-append, length-drop, take-append-drop}
+use lib.Seq.{length-take-le, take_at, drop-append-add, drop-drop, take-suc}
 use Rattle.cards.specs.Texts.{space, decimal, fields, Appended, Wrote}
 
 -- one element more
@@ -27,9 +27,6 @@ appended_one {before} {at} {text} p q =
 
 pub appended_none : {before : List ℕ} {at : ℕ} → at ≤ length before → Appended before at [] before at
 appended_none {before} {at} h = record { bytes = sym (take-append-drop at before); size = omega arith; fits = h }
-
-pub appended_byte : {before : List ℕ} {at : ℕ} (byte : ℕ) → at < length before → Appended before at (byte ∷ []) (set before at byte) (at + 1)
-appended_byte {before} {at} byte h = record { bytes = rw add-one (set_split before at byte h); size = refl; fits = omega arith }
 
 -- one text and then another
 pub appended_then : {a b c : List ℕ} {at mid end : ℕ} {s t : List ℕ} → Appended a at s b mid → Appended b mid t c end → Appended a at (s ++ t) c end
@@ -66,10 +63,6 @@ appended_then {a} {b} {c} {at} {mid} {end} {s} {t} p q =
 -- the same text said otherwise
 pub appended_as : {a b : List ℕ} {at end : ℕ} {s t : List ℕ} → s ≡ t → Appended a at s b end → Appended a at t b end
 appended_as {a} {b} {at} {end} e p = subst (λ (l : List ℕ). Appended a at l b end) e p
-
--- nothing comes after it
-pub appended_last : {a b : List ℕ} {at end : ℕ} {s : List ℕ} → Appended a at s b end → Appended a at (s ++ []) b end
-appended_last {s = s} p = appended_as (sym (append-nil s)) p
 
 -- ---- a text that is such
 

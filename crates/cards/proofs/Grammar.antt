@@ -1,10 +1,9 @@
 -- One number stands at the front of a text, with one rest after it, and so a line reads in one way.
 use mathlib.Core.Path.{◌≡◌, refl, sym, ap, subst, ◌∙◌}
-use mathlib.Core.Logic.{◌≢◌}
 use mathlib.Core.List.{List, [], ◌∷◌, ◌++◌, append-nil}
 use Prim.Native.Nat.{ℕ, ◌+◌, ◌*◌, ◌≤◌, ◌<◌}
 use native.Mathlib.Omega.{arith}
-use lib.ListN.{length, get_or, take, drop, take-append-drop, length-append}
+use lib.ListN.{length, get_or, take, take-append-drop, length-append}
 use lib.Dec.{eqb-suc-zero}
 use Rattle.triples.specs.declared.Triple.{Triple}
 use Rattle.triples.specs.Shuffles.{triple}
@@ -45,16 +44,6 @@ no_number {text} {end} r few m other _ f =
     let l : length f.front ≡ end = ap length e.0 ∙ run_length r in
     few (omega (arith, f.number.some)) (omega (arith, f.number.few))
 
-pub run_front : {text : List ℕ} {end n : ℕ} → Run text end → end ≢ 0 → end ≤ most_digits → n ≡ spelt 0 (take end text) → Front text n (drop end text)
-run_front {text} {end} {n} r some few e =
-    let l = run_length r in
-    record {
-      front = take end text;
-      number = record { digits = r.digits; some = omega arith; few = omega arith; stands_for = e };
-      split = sym (take-append-drop end text);
-      stops = r.stops;
-    }
-
 -- what the search for any number says of one with a space after it, and of one that is the whole text: no number, so none with such a
 -- rest; and another rest
 pub none_such : (Such : List ℕ → Type 0) {text : List ℕ} → NoFront Anything text → NoFront Such text
@@ -67,9 +56,6 @@ pub whole_or_none : {text : List ℕ} {n : ℕ} (rest : List ℕ) → Front text
     → MatchOption (then_some (length rest == 0) n) (NoFront NoMore text) (λ m. Front text m [])
 whole_or_none [] f = f
 whole_or_none (b ∷ rest) f = rw (eqb-suc-zero (length rest)) (other_rest NoMore f (λ e. cc))
-
-pub front_as : {text rest other : List ℕ} {n : ℕ} → rest ≡ other → Front text n rest → Front text n other
-front_as {text} {rest} {other} {n} e f = subst (λ (l : List ℕ). Front text n l) e f
 
 -- ---- a number, a space and such a rest
 
@@ -89,9 +75,6 @@ module _ {Such : List ℕ → Type 0} {text : List ℕ} {n : ℕ} where
 
 pub number_front : {text : List ℕ} {n : ℕ} → Number text n → Front text n []
 number_front {text} w = record { front = text; number = w; split = sym (append-nil text); stops = tt }
-
-pub front_number : {text : List ℕ} {n : ℕ} → Front text n [] → Number text n
-front_number {text} {n} p = subst (λ (l : List ℕ). Number l n) (sym (p.split ∙ append-nil p.front)) p.number
 
 -- ---- numbers with one space between them
 

@@ -6,9 +6,9 @@ use Prim.Native.Nat.{ℕ, ◌+◌, ◌≤◌, ◌<◌}
 use native.Mathlib.Omega.{arith}
 use lib.ListN.{length, get_or, take}
 use Rattle.cards.specs.declared.lines.Line.{Line}
-use Rattle.cards.specs.Texts.{newline, Appended, Wrote}
-use Rattle.cards.specs.Cards.{unreadable_card, CardOf}
-use Rattle.cards.specs.Output.{ending, Output, Holding, WroteFor, Goes, Prints}
+use Rattle.cards.specs.Texts.{newline, Wrote}
+use Rattle.cards.specs.Cards.{CardOf}
+use Rattle.cards.specs.Output.{Output, Holding, WroteFor, Goes, Prints}
 use Rattle.cards.proofs.Buffers.{take_next, appended_none, appended_then, wrote_as}
 use Rattle.cards.proofs.Contents.{card_one}
 
@@ -91,26 +91,6 @@ feeding_turn {piece} {before} {out} {after} {at} {end} {taken} {end'} {unended} 
           };
           written = appended_then a.written b.written;
         }
-
--- ---- the end of the input
-
-none_left : (seen : List ℕ) (line : Line) → Holding seen line → line.size ≡ 0 → [] ≡ ending seen
-none_left [] line h e = refl
-none_left (b ∷ seen) line h e = absurd (omega (arith, h.size))
-
-some_left : (seen : List ℕ) (line : Line) → Holding seen line → line.size ≢ 0 → unreadable_card ≡ ending seen
-some_left [] line h ne = absurd (ne h.size)
-some_left (b ∷ seen) line h ne = refl
-
-module _ {line : Line} {before : List ℕ} {at : ℕ} where
-  pub ended_clean : line.size ≡ 0 → at ≤ length before → WroteFor (λ seen. Output seen []) line before at before at
-  ended_clean e fits =
-      record { wrote = λ seen h. record { text = []; such = none_left seen line h e; written = appended_none fits }; fits = fits }
-
-  pub ended_cut : {after : List ℕ} {end : ℕ} → line.size ≢ 0 → Appended before at unreadable_card after end
-      → WroteFor (λ seen. Output seen []) line before at after end
-  ended_cut ne w =
-      record { wrote = λ seen h. record { text = unreadable_card; such = some_left seen line h ne; written = w }; fits = w.fits }
 
 -- ---- the whole input
 
