@@ -2,15 +2,11 @@
 use mathlib.Core.Path.{◌≡◌, refl, sym, ap, subst, ◌∙◌}
 use mathlib.Core.List.{List, [], ◌∷◌, ◌++◌, append_assoc, append-nil}
 use Prim.Native.Nat.{ℕ, ◌+◌, ◌≤◌, ◌<◌}
-use native.Mathlib.Numerals.{add-one}
 use native.Mathlib.Omega.{arith}
 use lib.ListN.{length, get_or, take, drop, length-append, length-drop, take-append-drop}
-use lib.Seq.{length-take-le, take_at, drop-append-add, drop-drop, take-suc}
+use lib.Seq.{length-take-le, take_at, drop-append-add, drop-drop}
+use Rattle.std.proofs.lemmas.List.{take_more}
 use Rattle.cards.specs.Texts.{space, decimal, fields, Appended, Wrote}
-
--- one element more
-pub take_next : (l : List ℕ) (i : ℕ) → i < length l → take (i + 1) l ≡ take i l ++ (get_or l i 0 ∷ [])
-take_next l i h = ap (λ (n : ℕ). take n l) (add-one i) ∙ take-suc l i 0 h
 
 -- a buffer keeps its length
 pub appended_length : {before : List ℕ} {at : ℕ} {text after : List ℕ} {end : ℕ} → Appended before at text after end → length after ≡ length before
@@ -84,5 +80,5 @@ fields_then (n ∷ a) b = ap (λ (l : List ℕ). space ∷ l) (ap (λ (l : List 
 pub fields_next : (numbers : List ℕ) (i : ℕ) → i < length numbers
     → fields (take (i + 1) numbers) ≡ fields (take i numbers) ++ (space ∷ decimal (get_or numbers i 0))
 fields_next numbers i h =
-    ap fields (take_next numbers i h) ∙ fields_then (take i numbers) (get_or numbers i 0 ∷ [])
+    ap fields (take_more numbers i 0 h) ∙ fields_then (take i numbers) (get_or numbers i 0 ∷ [])
     ∙ ap (λ (l : List ℕ). fields (take i numbers) ++ (space ∷ l)) (append-nil (decimal (get_or numbers i 0)))

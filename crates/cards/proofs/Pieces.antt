@@ -5,11 +5,12 @@ use mathlib.Core.List.{List, [], ◌∷◌, ◌++◌, append_assoc, append-nil}
 use Prim.Native.Nat.{ℕ, ◌+◌, ◌≤◌, ◌<◌}
 use native.Mathlib.Omega.{arith}
 use lib.ListN.{length, get_or, take}
+use Rattle.std.proofs.lemmas.List.{take_more}
 use Rattle.cards.specs.declared.lines.Line.{Line}
 use Rattle.cards.specs.Texts.{newline, Wrote}
 use Rattle.cards.specs.Cards.{CardOf}
 use Rattle.cards.specs.Output.{Output, Holding, WroteFor, Goes, Prints}
-use Rattle.cards.proofs.Buffers.{take_next, appended_none, appended_then, wrote_as}
+use Rattle.cards.proofs.Buffers.{appended_none, appended_then, wrote_as}
 use Rattle.cards.proofs.Contents.{card_one}
 
 goes_then : (seen mid rest p q s t : List ℕ) → Goes seen p mid s → Goes mid q rest t → Goes seen (p ++ q) rest (s ++ t)
@@ -85,7 +86,7 @@ feeding_turn {piece} {before} {out} {after} {at} {end} {taken} {end'} {unended} 
             rest = b.such.rest;
             holds = b.such.holds;
             goes =
-                subst (λ (l : List ℕ). Goes seen l b.such.rest (a.text ++ b.text)) (sym (take_next piece taken h))
+                subst (λ (l : List ℕ). Goes seen l b.such.rest (a.text ++ b.text)) (sym (take_more piece taken 0 h))
                 (goes_then seen a.such.rest b.such.rest (take taken piece) (get_or piece taken 0 ∷ []) a.text b.text
                 a.such.goes b.such.goes);
           };
