@@ -37,6 +37,7 @@ fn take<R: Print>(
     let mut line = unended;
     let mut end = at;
     let mut rest = piece;
+    // A `while`: how much of the rest a turn takes is known only after it.
     while !rest.is_empty() {
         let start = make_room(rt, out, end)?;
         let fed = cards::feed(rest, line, out, start);
@@ -56,11 +57,25 @@ fn finish<R: Print>(rt: &R, line: Line, out: &mut [u8], at: usize) -> io::Result
     rt.write_all(&out[..end])
 }
 
-// Why the cards end early: a read failed, and the cards before it went out so; or a write failed.
-#[derive(Drop)]
+// Why not every line has its card, and how the last write went: the input could not be read to its end, or the output not be written.
+#[derive(Clone, Copy)]
 enum Failure {
-    Unread(io::Result<()>),
-    Unwritten(io::Error),
+    Unread(Written),
+    Unwritten(Written),
+}
+
+impl Failure {
+    fn last_write(self) -> Written {
+        match self {
+            Failure::Unread(last) | Failure::Unwritten(last) => last,
+        }
+    }
+}
+
+impl From<io::Error> for Failure {
+    fn from(error: io::Error) -> Failure {
+        Failure::Unwritten(Written::of(Err(error)))
+    }
 }
 
 // A proved loop has to end, and nothing says that the input does. So it has as many turns as no run uses up.
@@ -79,37 +94,36 @@ fn run<R: Print, I: Read>(
             break;
         };
         if size == 0 {
-            return finish(rt, line, out, end).map_err(Failure::Unwritten);
+            return Ok(finish(rt, line, out, end)?);
         }
-        (line, end) = take(rt, &piece[..size], line, out, end).map_err(Failure::Unwritten)?;
+        (line, end) = take(rt, &piece[..size], line, out, end)?;
     }
     // The input did not come to its end, so nobody knows the rest of the last line, and it gets no card.
-    Err(Failure::Unread(rt.write_all(&out[..end])))
+    Err(Failure::Unread(Written::of(rt.write_all(&out[..end]))))
 }
 
 // Whoever calls the program learns of a failure from standard error alone. Where a pipe was closed nobody is told.
-fn tell<R: Eprint>(rt: &R, unread: bool, last: Written) {
-    match last {
-        Written::Closed => return,
-        last => {
-            if unread {
-                let _ = rt.eprintln("card: standard input cannot be read");
-            }
-            if !last.is_whole() {
-                let _ = rt.eprintln("card: standard output cannot be written");
-            }
-        }
+fn tell<R: Eprint>(rt: &R, failure: Failure) {
+    let last = failure.last_write();
+    if matches!(last, Written::Closed) {
+        return;
+    }
+    if matches!(failure, Failure::Unread(_)) {
+        let _ = rt.eprintln("card: standard input cannot be read");
+    }
+    if !last.is_whole() {
+        let _ = rt.eprintln("card: standard output cannot be written");
     }
 }
 
 fn main(rt: HostRuntime) -> ExitCode {
     let mut piece = [0u8; 65536];
     let mut out = [0u8; 65536];
-    let (unread, last) = match run(&rt, &mut rt.stdin(), &mut piece, &mut out) {
-        Ok(()) => return ExitCode::SUCCESS,
-        Err(Failure::Unread(written)) => (true, Written::of(written)),
-        Err(Failure::Unwritten(error)) => (false, Written::of(Err(error))),
-    };
-    tell(&rt, unread, last);
-    printing::status(last)
+    match run(&rt, &mut rt.stdin(), &mut piece, &mut out) {
+        Ok(()) => ExitCode::SUCCESS,
+        Err(failure) => {
+            tell(&rt, failure);
+            printing::status(failure.last_write())
+        }
+    }
 }

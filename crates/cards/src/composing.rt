@@ -9,7 +9,8 @@ use crate::reading::read;
 use crate::writing::Text;
 use triples::Triple;
 
-// What the card of a shuffle tells of it: the inverse, P, Q and the spread.
+// What the card of a shuffle tells of it: the inverse, P, Q and the spread. The inverse is a degree and thirteen places, as `FactsOf` says
+// it, which is under the promise that no second card fits.
 #[derive(Drop)]
 pub struct Facts {
     pub degree: u32,

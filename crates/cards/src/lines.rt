@@ -8,8 +8,7 @@ use crate::composing::card;
 // One more than a readable line has.
 const KEPT: usize = 18;
 
-// The bytes of a line that has not ended yet. One made by hand may hold anything: the fields are public, and nothing ties the size to
-// the bytes.
+// The bytes of a line that has not ended yet. One made by hand may hold anything, as is promised, so no invariant ties its size to 18.
 #[derive(Drop)]
 pub struct Line {
     pub bytes: [u8; KEPT],

@@ -7,7 +7,7 @@ use crate::composing::unreadable;
 use crate::lines::Line;
 use crate::writing::ROOM;
 
-// Gives the line that has not ended, and where its cards end in the buffer.
+// Takes a byte of a line: gives the line that has not ended, and where the cards end in the buffer.
 fn take_byte(line: Line, byte: u8, out: &mut [u8], at: usize) -> (Line, usize)
     requires { at + room ≤ length out.old }
     ensures { WroteFor (Prints (byte ∷ []) result.0) line out.old at out.new result.1 }
@@ -27,7 +27,8 @@ pub struct Fed {
     pub end: usize,
 }
 
-// Takes bytes of a piece until it ends, or until the buffer may have no room for another card.
+// Takes bytes of a piece until it ends, or until the buffer may have no room for another card. The buffer and the place in it are no
+// struct that keeps them: the caller reads and empties the buffer between the calls.
 pub fn feed(piece: &[u8], unended: Line, out: &mut [u8], at: usize) -> Fed
     requires { at ≤ length out.old }
     ensures { FedBy piece.now unended out.old at result out.new }

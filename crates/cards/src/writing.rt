@@ -12,6 +12,7 @@ pub const ROOM: usize = 256;
 // The least number of two digits.
 const TWO_DIGITS: u32 = 10;
 
+// An array and a size, and no `Vec`: a card is always written, and memory for a `Vec` may run out.
 #[derive(Drop)]
 pub struct Text {
     bytes: [u8; ROOM],
@@ -53,7 +54,7 @@ impl Text {
         }
     }
 
-    // A number without leading zeros.
+    // A number without leading zeros. No `write!`: it may fail, and nothing says that it does not where there is room.
     pub fn push_number(&mut self, n: u32)
         requires { length self.old + length (decimal n) ≤ room }
         ensures { self.new ≡ self.old ++ decimal n }
