@@ -14,8 +14,6 @@ use Rattle.cards.specs.Cards.{refused_word, ok_word, row, FactsOf, told, TripleC
 use Rattle.cards.proofs.Buffers.{wrote_one}
 use Rattle.cards.proofs.Grammar.{reads_one}
 
--- ---- no second card
-
 -- what is told of a shuffle is one thing
 facts_one : {t : Triple} {r s : Facts} → FactsOf t r → FactsOf t s → told r ≡ told s
 facts_one {t} {r} {s} x y =
