@@ -1,156 +1,129 @@
 // The card program: reads standard input to its end, and writes a card for each line to standard output.
 #![tactic(auto)]
 
-ghost use Rattle.std.specs.Prelude.{◌+◌, ◌≤◌, length};
+ghost use Rattle.std.specs.Prelude.{◌+◌, ◌≤◌, length, IfOk};
 ghost use Rattle.cards.specs.Cards.{room};
 
 use asking::printing;
 use asking::printing::Written;
 use cards::Line;
+use std::io;
 use std::io::Read;
 use std::process::ExitCode;
 
-// Writes the cards at the start of the buffer, and answers how that went.
-fn write_cards<R: Print>(rt: &R, out: &[u8], end: usize) -> Written
-    requires { end ≤ length out.now }
-{
-    Written::of(rt.write_all(&out[..end]))
-}
-
-// How the last write went, and how many bytes at the start of the buffer are not written yet.
-#[derive(Drop)]
-struct Room {
-    last: Written,
-    end: usize,
-}
-
-// Empties a buffer that may have no room for another card.
-fn make_room<R: Print>(rt: &R, out: &[u8], end: usize) -> Room
+// Empties a buffer that may have no room for another card, and answers where the cards in it end.
+fn make_room<R: Print>(rt: &R, out: &[u8], end: usize) -> io::Result<usize>
     requires { (end ≤ length out.now) × (room ≤ length out.now) }
-    ensures { result.end + room ≤ length out.now }
+    ensures { IfOk result (λ start. start + room ≤ length out.now) }
 {
     if out.len() - end >= cards::ROOM {
-        return Room {
-            last: Written::Whole,
-            end,
-        };
+        return Ok(end);
     }
-    Room {
-        last: write_cards(rt, out, end),
-        end: 0,
-    }
+    rt.write_all(&out[..end])?;
+    Ok(0)
 }
 
-#[derive(Drop)]
-struct Progress {
-    last: Written,
-    line: Line,
-    end: usize,
-}
-
-// Takes a whole piece of the input.
-fn take<R: Print>(rt: &R, piece: &[u8], unended: Line, out: &mut [u8], at: usize) -> Progress
+// Takes a whole piece of the input, and gives the line that has not ended and where the cards end.
+fn take<R: Print>(
+    rt: &R,
+    piece: &[u8],
+    unended: Line,
+    out: &mut [u8],
+    at: usize,
+) -> io::Result<(Line, usize)>
     requires { (at ≤ length out.old) × (room ≤ length out.old) }
-    ensures { result.end ≤ length out.old }
+    ensures { IfOk result (λ progress. progress.1 ≤ length out.old) }
 {
     let mut line = unended;
     let mut end = at;
-    let mut done = 0;
-    while done < piece.len() {
-        let room = make_room(rt, out, end);
-        if !room.last.is_whole() {
-            return Progress {
-                last: room.last,
-                line,
-                end: 0,
-            };
-        }
-        let fed = cards::feed(&piece[done..], line, out, room.end);
+    let mut rest = piece;
+    // A `while`: how much of the rest a turn takes is known only after it.
+    while !rest.is_empty() {
+        let start = make_room(rt, out, end)?;
+        let fed = cards::feed(rest, line, out, start);
         line = fed.line;
         end = fed.end;
-        done += fed.taken;
+        rest = &rest[fed.taken..];
     }
-    Progress {
-        last: Written::Whole,
-        line,
-        end,
-    }
+    Ok((line, end))
 }
 
-// Writes what is left at the end of the input, and answers how that went.
-fn finish<R: Print>(rt: &R, line: Line, out: &mut [u8], at: usize) -> Written
+// Writes what is left at the end of the input.
+fn finish<R: Print>(rt: &R, line: Line, out: &mut [u8], at: usize) -> io::Result<()>
     requires { (at ≤ length out.old) × (room ≤ length out.old) }
 {
-    let room = make_room(rt, out, at);
-    if !room.last.is_whole() {
-        return room.last;
+    let start = make_room(rt, out, at)?;
+    let end = cards::finish(line, out, start);
+    rt.write_all(&out[..end])
+}
+
+// Why not every line has its card, and how the last write went: the input could not be read to its end, or the output not be written.
+#[derive(Clone, Copy)]
+enum Failure {
+    Unread(Written),
+    Unwritten(Written),
+}
+
+impl Failure {
+    fn last_write(self) -> Written {
+        match self {
+            Failure::Unread(last) | Failure::Unwritten(last) => last,
+        }
     }
-    let end = cards::finish(line, out, room.end);
-    write_cards(rt, out, end)
 }
 
-#[derive(Drop)]
-struct Outcome {
-    read: bool,
-    last: Written,
+impl From<io::Error> for Failure {
+    fn from(error: io::Error) -> Failure {
+        Failure::Unwritten(Written::of(Err(error)))
+    }
 }
 
-// A proved loop has to end, and nothing says that the input does. So the loop counts its turns down, from a
-// number that no run uses up.
-fn run<R: Print, I: Read>(rt: &R, input: &mut I, piece: &mut [u8], out: &mut [u8]) -> Outcome
+// A proved loop has to end, and nothing says that the input does. So it has as many turns as no run uses up.
+fn run<R: Print, I: Read>(
+    rt: &R,
+    input: &mut I,
+    piece: &mut [u8],
+    out: &mut [u8],
+) -> Result<(), Failure>
     requires { room ≤ length out.old }
 {
     let mut line = Line::new();
     let mut end = 0;
-    let mut turns = u64::MAX;
-    while turns > 0 {
+    for _ in 0..u64::MAX {
         let Ok(size) = input.read(piece) else {
             break;
         };
         if size == 0 {
-            return Outcome {
-                read: true,
-                last: finish(rt, line, out, end),
-            };
+            return Ok(finish(rt, line, out, end)?);
         }
-        let progress = take(rt, &piece[..size], line, out, end);
-        if !progress.last.is_whole() {
-            return Outcome {
-                read: true,
-                last: progress.last,
-            };
-        }
-        line = progress.line;
-        end = progress.end;
-        turns -= 1;
+        (line, end) = take(rt, &piece[..size], line, out, end)?;
     }
     // The input did not come to its end, so nobody knows the rest of the last line, and it gets no card.
-    Outcome {
-        read: false,
-        last: write_cards(rt, out, end),
-    }
+    Err(Failure::Unread(Written::of(rt.write_all(&out[..end]))))
 }
 
 // Whoever calls the program learns of a failure from standard error alone. Where a pipe was closed nobody is told.
-fn tell<R: Eprint>(rt: &R, outcome: Outcome) {
-    match outcome.last {
-        Written::Closed => return,
-        last => {
-            if !outcome.read {
-                let _ = rt.eprintln("card: standard input cannot be read");
-            }
-            if !last.is_whole() {
-                let _ = rt.eprintln("card: standard output cannot be written");
-            }
-        }
+fn tell<R: Eprint>(rt: &R, failure: Failure) {
+    let last = failure.last_write();
+    if matches!(last, Written::Closed) {
+        return;
+    }
+    if matches!(failure, Failure::Unread(_)) {
+        let _ = rt.eprintln("card: standard input cannot be read");
+    }
+    if !last.is_whole() {
+        let _ = rt.eprintln("card: standard output cannot be written");
     }
 }
 
 fn main(rt: HostRuntime) -> ExitCode {
     let mut piece = [0u8; 65536];
     let mut out = [0u8; 65536];
-    let outcome = run(&rt, &mut rt.stdin(), &mut piece, &mut out);
-    let last = outcome.last;
-    tell(&rt, outcome);
-    printing::status(last)
+    match run(&rt, &mut rt.stdin(), &mut piece, &mut out) {
+        Ok(()) => ExitCode::SUCCESS,
+        Err(failure) => {
+            tell(&rt, failure);
+            printing::status(failure.last_write())
+        }
+    }
 }

@@ -1,6 +1,5 @@
 -- What a card tells of a shuffle, and that no second card fits.
-use mathlib.Core.Path.{◌≡◌, refl, sym, ap, subst, ◌∙◌}
-use mathlib.Core.Logic.{◌≢◌}
+use mathlib.Core.Path.{◌≡◌, sym, ap, subst, ◌∙◌}
 use mathlib.Core.List.{List, [], ◌∷◌}
 use Prim.Native.Nat.{ℕ}
 use Rattle.triples.specs.declared.Triple.{Triple}
@@ -8,33 +7,12 @@ use Rattle.triples.specs.Shuffles.{quadratic}
 use Rattle.polynomials.proofs.Inverses.{inverted_one}
 use Rattle.arp_forms.proofs.ArpForms.{arp_numbers_one}
 use Rattle.spreading.proofs.Spreads.{spread_one}
-use Rattle.refusals.specs.Refusals.{Acceptance}
 use Rattle.refusals.proofs.Acceptance.{acceptance_one}
 use Rattle.cards.specs.declared.composing.Facts.{Facts}
-use Rattle.cards.specs.Texts.{Appended, Wrote}
-use Rattle.cards.specs.Cards.{Reads, Unreadable, unreadable_card, refused_word, ok_word, row, FactsOf, told, TripleCard, refused, accepted, CardOf, unreadable, readable}
-use Rattle.cards.proofs.Buffers.{wrote_as, wrote_one}
+use Rattle.cards.specs.Texts.{Wrote}
+use Rattle.cards.specs.Cards.{refused_word, ok_word, row, FactsOf, told, TripleCard, refused, accepted, CardOf, unreadable, readable}
+use Rattle.cards.proofs.Buffers.{wrote_one}
 use Rattle.cards.proofs.Grammar.{reads_one}
-
--- ---- the kinds of card, as they are written
-
-module _ {before after : List ℕ} {at end : ℕ} where
-  pub card_unreadable : {line : List ℕ} → Unreadable line → Appended before at unreadable_card after end → Wrote (CardOf line) before at after end
-  card_unreadable none w = record { text = unreadable_card; such = unreadable none refl; written = w }
-
-  pub card_readable : {line : List ℕ} {t : Triple} → Reads line t → Wrote (TripleCard t) before at after end → Wrote (CardOf line) before at after end
-  card_readable {line} {t} r w = wrote_as (λ text c. readable t r c) w
-
-  pub card_refused : {t : Triple} {n : ℕ} → Acceptance (quadratic t) n → n ≢ 0 → Appended before at (row t refused_word (n ∷ [])) after end
-      → Wrote (TripleCard t) before at after end
-  card_refused {t} {n} a ne w = record { text = row t refused_word (n ∷ []); such = refused n a ne refl; written = w }
-
-  pub card_accepted : {t : Triple} {r : Facts} {n : ℕ} → Acceptance (quadratic t) n → n ≡ 0 → FactsOf t r → Appended before at (row t ok_word (told r)) after end
-      → Wrote (TripleCard t) before at after end
-  card_accepted {t} {r} a z facts w =
-      record { text = row t ok_word (told r); such = accepted r (subst (λ (n : ℕ). Acceptance (quadratic t) n) z a) facts refl; written = w }
-
--- ---- no second card
 
 -- what is told of a shuffle is one thing
 facts_one : {t : Triple} {r s : Facts} → FactsOf t r → FactsOf t s → told r ≡ told s

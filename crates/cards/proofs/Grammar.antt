@@ -1,22 +1,19 @@
 -- One number stands at the front of a text, with one rest after it, and so a line reads in one way.
 use mathlib.Core.Path.{◌≡◌, refl, sym, ap, subst, ◌∙◌}
-use mathlib.Core.Logic.{◌≢◌}
-use mathlib.Core.Bool.{Bool, true, false}
 use mathlib.Core.List.{List, [], ◌∷◌, ◌++◌, append-nil}
-use Prim.Native.Nat.{ℕ, suc, ◌+◌, ◌*◌, ◌≤◌, ◌<◌}
-use native.Mathlib.Numerals.{add-one}
-use native.Mathlib.Decide.{ℕ_discrete}
+use Prim.Native.Nat.{ℕ, ◌+◌, ◌*◌, ◌≤◌, ◌<◌}
 use native.Mathlib.Omega.{arith}
-use lib.ListN.{length, get_or, take, drop, take-append-drop, drop_of_length-le, length-append, length-drop}
-use lib.Seq.{drop-cons}
+use lib.ListN.{length, get_or, take, take-append-drop, length-append}
+use lib.Dec.{eqb-suc-zero}
 use Rattle.triples.specs.declared.Triple.{Triple}
 use Rattle.triples.specs.Shuffles.{triple}
-use Rattle.cards.specs.declared.reading.Reading.{Reading}
+use Rattle.std.specs.Prelude.{Option, None, Some, MatchOption, ◌==◌}
+use Rattle.std.specs.Bool.{then_some}
 use Rattle.cards.specs.Texts.{space, Digits, spelt, most_digits, Number, Begins, Lists}
-use Rattle.cards.specs.Cards.{members, Reads, Unreadable, nothing_read, ReadAs}
+use Rattle.cards.specs.Cards.{members, Reads, ReadAs}
 use Rattle.cards.specs.Output.{kept}
-use Rattle.cards.specs.Fronts.{Stops, Run, Front, NoFront, Search, Anything, Spaced, NoMore}
-use Rattle.cards.proofs.Numerals.{yes_or_no, no_digit_low, run_length}
+use Rattle.cards.specs.Fronts.{Stops, Run, Front, NoFront, Anything, NoMore}
+use Rattle.cards.proofs.Numerals.{no_digit_low, run_length}
 
 -- digits end in one place
 digits_one : (a b : List ℕ) {x y : List ℕ} → Digits a → Digits b → Stops x → Stops y → a ++ x ≡ b ++ y → (a ≡ b) × (x ≡ y)
@@ -47,74 +44,18 @@ no_number {text} {end} r few m other _ f =
     let l : length f.front ≡ end = ap length e.0 ∙ run_length r in
     few (omega (arith, f.number.some)) (omega (arith, f.number.few))
 
-pub run_front : {text : List ℕ} {end n : ℕ} → Run text end → end ≢ 0 → end ≤ most_digits → n ≡ spelt 0 (take end text) → Front text n (drop end text)
-run_front {text} {end} {n} r some few e =
-    let l = run_length r in
-    record {
-      front = take end text;
-      number = record { digits = r.digits; some = omega arith; few = omega arith; stands_for = e };
-      split = sym (take-append-drop end text);
-      stops = r.stops;
-    }
+-- what the search for any number says of one with a space after it, and of one that is the whole text: no number, so none with such a
+-- rest; and another rest
+pub none_such : (Such : List ℕ → Type 0) {text : List ℕ} → NoFront Anything text → NoFront Such text
+none_such Such none m other _ = none m other tt
 
-module _ {Such : List ℕ → Type 0} {text rest : List ℕ} {n : ℕ} where
-  pub search_none : (past : ℕ) → past ≡ 0 → NoFront Such text → Search Such text past n rest
-  search_none past e none =
-      record { within = omega arith; found = λ ne. absurd (ne e); none = λ _. none }
+pub other_rest : (Such : List ℕ → Type 0) {text rest : List ℕ} {n : ℕ} → Front text n rest → ¬ Such rest → NoFront Such text
+other_rest Such f not m other such g = not (subst Such (sym (front_one f g).1) such)
 
-  pub search_found : {past : ℕ} → past ≢ 0 → past ≤ length text → Front text n rest → Such rest → Search Such text past n rest
-  search_found ne h f such = record { within = h; found = λ _. (f, such); none = λ e. absurd (ne e) }
-
-pub front_as : {text rest other : List ℕ} {n : ℕ} → rest ≡ other → Front text n rest → Front text n other
-front_as {text} {rest} {other} {n} e f = subst (λ (l : List ℕ). Front text n l) e f
-
--- what the search for any number says of one with a space after it, and of one that is the whole text
-module _ {text : List ℕ} {past n : ℕ} (s : Search Anything text past n (drop past text)) where
-  -- no number, so none with such a rest
-  pub none_such : (Such : List ℕ → Type 0) → past ≡ 0 → NoFront Such text
-  none_such Such e m other _ = s.none e m other tt
-
-  -- another rest
-  other_rest : (Such : List ℕ → Type 0) → past ≢ 0 → ¬ Such (drop past text) → NoFront Such text
-  other_rest Such ne not m other such f = not (subst Such (sym (front_one (s.found ne).0 f).1) such)
-
-  pub spaced_ended : past ≢ 0 → past ≡ length text → NoFront Spaced text
-  spaced_ended ne e =
-      other_rest Spaced ne (λ such. let z = ap length (sym (drop_of_length-le text {i = past} (omega arith)) ∙ such.1) in omega arith)
-
-  pub spaced_other : past ≢ 0 → past < length text → get_or text past 0 ≢ space → NoFront Spaced text
-  spaced_other ne h other =
-      other_rest Spaced ne
-      (λ such. let z : get_or text past 0 ∷ drop (suc past) text ≡ space ∷ such.0 = sym (drop-cons text past 0 h) ∙ such.1 in other cc)
-
-  pub spaced_past : past ≢ 0 → past < length text → get_or text past 0 ≡ space → Search Spaced text (past + 1) n (space ∷ drop (past + 1) text)
-  spaced_past ne h e = search_found (omega arith) (omega arith) (front_as rest (s.found ne).0) (drop (past + 1) text, refl)
-    where
-      rest : drop past text ≡ space ∷ drop (past + 1) text
-      rest =
-          drop-cons text past 0 h ∙ ap (λ (b : ℕ). b ∷ drop (suc past) text) e ∙ ap (λ (i : ℕ). space ∷ drop i text) (sym (add-one past))
-
-  pub whole_found : past ≡ length text → Search NoMore text past n []
-  whole_found e = pick (ℕ_discrete past 0)
-    where
-      pick : Dec (past ≡ 0) → Search NoMore text past n []
-      pick (yes z) = search_none past z (none_such NoMore z)
-      pick (no z) = search_found z s.within (front_as (drop_of_length-le text {i = past} (omega arith)) (s.found z).0) refl
-
-  pub whole_none : past ≢ length text → NoFront NoMore text
-  whole_none ne = pick (ℕ_discrete past 0)
-    where
-      pick : Dec (past ≡ 0) → NoFront NoMore text
-      pick (yes z) = none_such NoMore z
-      pick (no z) = other_rest NoMore z (λ e. let l = ap length e in omega (arith, s.within, length-drop past text))
-
-pub spaced_none : {text rest : List ℕ} {past n : ℕ} → Search Spaced text past n rest → past ≡ 0 → (m : ℕ) (more : List ℕ)
-    → ¬ Front text m (space ∷ more)
-spaced_none s e m more = s.none e m (space ∷ more) (more, refl)
-
-pub spaced_found : {text rest : List ℕ} {past n : ℕ} → Search Spaced text past n (space ∷ drop past text) → past ≢ 0 → rest ≡ drop past text
-    → Front text n (space ∷ rest)
-spaced_found s ne e = front_as (ap (λ (l : List ℕ). space ∷ l) (sym e)) (s.found ne).0
+pub whole_or_none : {text : List ℕ} {n : ℕ} (rest : List ℕ) → Front text n rest
+    → MatchOption (then_some (length rest == 0) n) (NoFront NoMore text) (λ m. Front text m [])
+whole_or_none [] f = f
+whole_or_none (b ∷ rest) f = rw (eqb-suc-zero (length rest)) (other_rest NoMore f (λ e. cc))
 
 -- ---- a number, a space and such a rest
 
@@ -134,9 +75,6 @@ module _ {Such : List ℕ → Type 0} {text : List ℕ} {n : ℕ} where
 
 pub number_front : {text : List ℕ} {n : ℕ} → Number text n → Front text n []
 number_front {text} w = record { front = text; number = w; split = sym (append-nil text); stops = tt }
-
-pub front_number : {text : List ℕ} {n : ℕ} → Front text n [] → Number text n
-front_number {text} {n} p = subst (λ (l : List ℕ). Number l n) (sym (p.split ∙ append-nil p.front)) p.number
 
 -- ---- numbers with one space between them
 
@@ -173,19 +111,9 @@ reads_one {line} {t} {u} p q =
 pub reads_short : {line : List ℕ} {t : Triple} → Reads line t → length line < kept
 reads_short {line} {t} r = lists_short (members t) line r.lists
 
-pub readable_as : {line : List ℕ} {r : Reading} → r.readable ≡ true → Reads line r.triple → ReadAs line r
-readable_as e w = record { readable = λ _. w; unreadable = λ z. absurd (yes_or_no e z) }
-
-pub unreadable_as : {line : List ℕ} {r : Reading} → r ≡ nothing_read → Unreadable line → ReadAs line r
-unreadable_as e none =
-    record { readable = λ z. absurd (yes_or_no z (ap (λ (s : Reading). s.readable) e)); unreadable = λ _. (none, e) }
-
 -- no second answer fits
-pub read_one : {line : List ℕ} {r s : Reading} → ReadAs line r → ReadAs line s → r ≡ s
-read_one {line} {r} {s} a b = pick r.readable refl s.readable refl
-  where
-    pick : (p : Bool) → r.readable ≡ p → (q : Bool) → s.readable ≡ q → r ≡ s
-    pick true e true w = λ i. record { readable = (e ∙ sym w) i; triple = reads_one (a.readable e) (b.readable w) i }
-    pick true e false w = absurd ((b.unreadable w).0 r.triple (a.readable e))
-    pick false e true w = absurd ((a.unreadable e).0 s.triple (b.readable w))
-    pick false e false w = (a.unreadable e).1 ∙ sym (b.unreadable w).1
+pub read_one : (line : List ℕ) (r s : Option Triple) → ReadAs line r → ReadAs line s → r ≡ s
+read_one line None None _ _ = refl
+read_one line None (Some t) none reads = absurd (none t reads)
+read_one line (Some t) None reads none = absurd (none t reads)
+read_one line (Some t) (Some u) a b = ap Some (reads_one a b)

@@ -1,32 +1,20 @@
 -- Digits, and what they stand for.
 use mathlib.Core.Path.{◌≡◌, refl, sym, ap, subst, ◌∙◌}
-use mathlib.Core.Bool.{Bool, true, false}
+use mathlib.Core.Bool.{Bool, true, false, cond}
+use Rattle.std.specs.List.{prefix_len}
+use Rattle.std.specs.Char.{is_ascii_digit}
 use mathlib.Core.List.{List, [], ◌∷◌, ◌++◌}
 use Prim.Native.Nat.{ℕ, zero, suc, ◌+◌, ◌-◌, ◌*◌, ◌^◌, ◌≤◌, ◌<◌}
 use native.Mathlib.Nat.{pow-zero, pow-succ', pow-le-pow_right, mul-le-mul_right}
 use native.Mathlib.Omega.{arith}
-use lib.ListN.{length, get_or, take, drop_of_length-le}
-use lib.Seq.{drop-cons, take_all, length-take-le}
-use Rattle.numbers.specs.Decision.{Decides}
+use Rattle.std.proofs.lemmas.Bool.Decides.{nat_tests}
+use lib.ListN.{length, get_or, take}
+use lib.Seq.{length-take-le}
 use Rattle.cards.specs.Texts.{Digit, Digits, spelt, most_digits}
-use Rattle.cards.specs.Fronts.{Stops, Run}
-use Rattle.cards.proofs.Buffers.{take_next}
-
-pub yes_or_no : {b : Bool} → b ≡ true → b ≡ false → ⊥
-yes_or_no p q = let z : ◌≡◌ {A = ℕ} 0 1 = cc in omega arith
-
--- answers of yes and no
-pub decides_yes : {P : Type 0} → P → Decides P true
-decides_yes p = record { yes_only_if = λ _. p; no_only_if = λ e. absurd (yes_or_no refl e) }
-
-pub decides_no : {P : Type 0} → ¬ P → Decides P false
-decides_no n = record { yes_only_if = λ e. absurd (yes_or_no e refl); no_only_if = λ _. n }
+use Rattle.cards.specs.Fronts.{Run}
 
 pub no_digit_low : {byte : ℕ} → byte < 48 → ¬ Digit byte
 no_digit_low h d = omega (arith, d.low)
-
-pub no_digit_high : {byte : ℕ} → 57 < byte → ¬ Digit byte
-no_digit_high h d = omega (arith, d.high)
 
 pub digits_then : (text : List ℕ) {byte : ℕ} → Digits text → Digit byte → Digits (text ++ (byte ∷ []))
 digits_then [] _ d = (d, tt)
@@ -44,25 +32,32 @@ digits_take (b ∷ text) (suc i) (d, more) = (d, digits_take text i more)
 
 -- ---- the run of digits at the front
 
--- the bytes up to `end` are digits
-pub record DigitsTo (text : List ℕ) (end : ℕ) : Type 0 where
-  pub within : end ≤ length text
-  pub digits : Digits (take end text)
+-- a digit, and any other byte, as the test says
+digit_yes : (byte : ℕ) → Digit byte → is_ascii_digit byte ≡ true
+digit_yes byte d = let low = d.low in let high = d.high in grind (arith, nat_tests)
 
-module _ {text : List ℕ} {end : ℕ} where
-  pub run_turn : DigitsTo text end → end < length text → Digit (get_or text end 0) → DigitsTo text (end + 1)
-  run_turn d h here =
-      record { within = omega arith; digits = subst Digits (sym (take_next text end h)) (digits_then (take end text) d.digits here) }
+digit_said : (byte : ℕ) → is_ascii_digit byte ≡ true → Digit byte
+digit_said byte e = record { low = grind (arith, nat_tests); high = grind (arith, nat_tests) }
 
-  pub run_stops : DigitsTo text end → end < length text → ¬ Digit (get_or text end 0) → Run text end
-  run_stops d h here =
-      record { within = d.within; digits = d.digits; stops = subst Stops (sym (drop-cons text end 0 h)) here }
+digit_no : (byte : ℕ) → is_ascii_digit byte ≡ false → ¬ Digit byte
+digit_no byte e d = let z : true ≡ false = sym (digit_yes byte d) ∙ e in cc
 
-  pub run_ends : DigitsTo text end → length text ≤ end → Run text end
-  run_ends d h = record { within = d.within; digits = d.digits; stops = subst Stops (sym (drop_of_length-le text h)) tt }
+-- it ends at the first byte that is no digit
+pub run_found : (text : List ℕ) → Run text (prefix_len is_ascii_digit text)
+run_found [] = record { within = omega arith; digits = tt; stops = tt }
+run_found (byte ∷ text) = pick (is_ascii_digit byte) refl (run_found text)
+  where
+    end : ℕ
+    end = prefix_len is_ascii_digit text
 
-  pub run_length : Run text end → length (take end text) ≡ end
-  run_length r = length-take-le end text r.within
+    pick : (b : Bool) → is_ascii_digit byte ≡ b → Run text end → Run (byte ∷ text) (cond b (1 + end) 0)
+    pick true e r =
+        subst (Run (byte ∷ text)) {x = suc end} (omega arith)
+        (record { within = omega (arith, r.within); digits = (digit_said byte e, r.digits); stops = r.stops })
+    pick false e r = record { within = omega arith; digits = tt; stops = digit_no byte e }
+
+pub run_length : {text : List ℕ} {end : ℕ} → Run text end → length (take end text) ≡ end
+run_length {text} {end} r = length-take-le end text r.within
 
 -- ---- the value
 
@@ -83,22 +78,9 @@ pub record ValueTo (text : List ℕ) (i n : ℕ) : Type 0 where
   pub stands_for : n ≡ spelt 0 (take i text)
 
 module _ {text : List ℕ} {i n : ℕ} (v : ValueTo text i n) where
-  pub value_turn : i < length text → ValueTo text (i + 1) (10 * n + (get_or text i 0 - 48))
-  value_turn h =
-      record {
-        within = omega arith;
-        stands_for =
-            ap (λ (m : ℕ). 10 * m + (get_or text i 0 - 48)) v.stands_for
-            ∙ sym (value_then 0 (take i text) (get_or text i 0))
-            ∙ sym (ap (spelt 0) (take_next text i h));
-      }
-
   -- one digit fewer than the most
   pub value_small : Digits text → length text ≤ most_digits → i < length text → n < 10000
   value_small d l h =
       let w = value_below 0 (take i text) (digits_take text i d) in
       let p = pow-le-pow_right {n = 10} (omega arith) {i = length (take i text)} {j = 4} (omega (arith, length-take-le i text v.within)) in
       omega (arith, v.stands_for)
-
-  pub value_end : length text ≤ i → n ≡ spelt 0 text
-  value_end h = v.stands_for ∙ ap (spelt 0) (take_all i text h)

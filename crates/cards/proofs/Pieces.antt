@@ -2,15 +2,15 @@
 use mathlib.Core.Path.{◌≡◌, refl, sym, ap₂, subst, ◌∙◌}
 use mathlib.Core.Logic.{◌≢◌, inl, inr}
 use mathlib.Core.List.{List, [], ◌∷◌, ◌++◌, append_assoc, append-nil}
-use Prim.Native.Nat.{ℕ, ◌+◌, ◌-◌, ◌≤◌, ◌<◌}
-use native.Mathlib.Decide.{ℕ_discrete}
+use Prim.Native.Nat.{ℕ, ◌+◌, ◌≤◌, ◌<◌}
 use native.Mathlib.Omega.{arith}
 use lib.ListN.{length, get_or, take}
+use Rattle.std.proofs.lemmas.List.{take_more}
 use Rattle.cards.specs.declared.lines.Line.{Line}
-use Rattle.cards.specs.Texts.{newline, Appended, Wrote}
-use Rattle.cards.specs.Cards.{room, unreadable_card, CardOf}
-use Rattle.cards.specs.Output.{ending, Output, Holding, WroteFor, Goes, Prints, FedBy}
-use Rattle.cards.proofs.Buffers.{take_next, appended_none, appended_then, wrote_as}
+use Rattle.cards.specs.Texts.{newline, Wrote}
+use Rattle.cards.specs.Cards.{CardOf}
+use Rattle.cards.specs.Output.{Output, Holding, WroteFor, Goes, Prints}
+use Rattle.cards.proofs.Buffers.{appended_none, appended_then, wrote_as}
 use Rattle.cards.proofs.Contents.{card_one}
 
 goes_then : (seen mid rest p q s t : List ℕ) → Goes seen p mid s → Goes mid q rest t → Goes seen (p ++ q) rest (s ++ t)
@@ -86,45 +86,12 @@ feeding_turn {piece} {before} {out} {after} {at} {end} {taken} {end'} {unended} 
             rest = b.such.rest;
             holds = b.such.holds;
             goes =
-                subst (λ (l : List ℕ). Goes seen l b.such.rest (a.text ++ b.text)) (sym (take_next piece taken h))
+                subst (λ (l : List ℕ). Goes seen l b.such.rest (a.text ++ b.text)) (sym (take_more piece taken 0 h))
                 (goes_then seen a.such.rest b.such.rest (take taken piece) (get_or piece taken 0 ∷ []) a.text b.text
                 a.such.goes b.such.goes);
           };
           written = appended_then a.written b.written;
         }
-
-pub feeding_end : {piece before out : List ℕ} {at end taken : ℕ} {unended line : Line} → Feeding piece before at unended out line end taken
-    → (at + room ≤ length before → 1 ≤ length piece → 1 ≤ taken)
-    → FedBy piece unended before at (record { taken = taken; line = line; end = end }) out
-feeding_end g moves = record { took = g.took; within = g.within; moves = moves }
-
--- a stop for want of room comes after something was taken
-pub moved : {at end taken : ℕ} (size : ℕ) → (taken ≡ 0 → end ≡ at) → size - end < room → at + room ≤ size → 1 ≤ taken
-moved {at} {end} {taken} size unmoved little enough = pick (ℕ_discrete taken 0)
-  where
-    pick : Dec (taken ≡ 0) → 1 ≤ taken
-    pick (yes z) = absurd (omega (arith, unmoved z))
-    pick (no z) = omega arith
-
--- ---- the end of the input
-
-none_left : (seen : List ℕ) (line : Line) → Holding seen line → line.size ≡ 0 → [] ≡ ending seen
-none_left [] line h e = refl
-none_left (b ∷ seen) line h e = absurd (omega (arith, h.size))
-
-some_left : (seen : List ℕ) (line : Line) → Holding seen line → line.size ≢ 0 → unreadable_card ≡ ending seen
-some_left [] line h ne = absurd (ne h.size)
-some_left (b ∷ seen) line h ne = refl
-
-module _ {line : Line} {before : List ℕ} {at : ℕ} where
-  pub ended_clean : line.size ≡ 0 → at ≤ length before → WroteFor (λ seen. Output seen []) line before at before at
-  ended_clean e fits =
-      record { wrote = λ seen h. record { text = []; such = none_left seen line h e; written = appended_none fits }; fits = fits }
-
-  pub ended_cut : {after : List ℕ} {end : ℕ} → line.size ≢ 0 → Appended before at unreadable_card after end
-      → WroteFor (λ seen. Output seen []) line before at after end
-  ended_cut ne w =
-      record { wrote = λ seen h. record { text = unreadable_card; such = some_left seen line h ne; written = w }; fits = w.fits }
 
 -- ---- the whole input
 

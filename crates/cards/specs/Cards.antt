@@ -1,12 +1,11 @@
 -- To be believed: the triple of a line, and its card.
-use Rattle.std.specs.Prelude.{◌≡◌, true, false, ◌≢◌, List, [], ◌∷◌, ◌++◌, ℕ, take}
+use Rattle.std.specs.Prelude.{◌≡◌, ◌≢◌, Option, None, Some, List, [], ◌∷◌, ◌++◌, ℕ, take}
 use Rattle.triples.specs.declared.Triple.{Triple}
-use Rattle.triples.specs.Shuffles.{triple, f, quadratic}
+use Rattle.triples.specs.Shuffles.{f, quadratic}
 use Rattle.polynomials.specs.Inverses.{Inverted}
 use Rattle.arp_forms.specs.Arp.{ArpNumbers}
 use Rattle.spreading.specs.Spreads.{Spread}
 use Rattle.refusals.specs.Refusals.{Acceptance}
-use Rattle.cards.specs.declared.reading.Reading.{Reading}
 use Rattle.cards.specs.declared.composing.Facts.{Facts}
 use Rattle.cards.specs.Texts.{space, newline, Lists, fields, listing}
 
@@ -23,13 +22,10 @@ pub record Reads (line : List ℕ) (t : Triple) : Type 0 where
 abbrev pub Unreadable : List ℕ → Type 0
 Unreadable line = (t : Triple) → ¬ Reads line t
 
-abbrev pub nothing_read : Reading
-nothing_read = record { readable = false; triple = triple 0 0 0 }
-
--- The triple of a readable line; or the word that it is not readable, and zeros beside it.
-pub record ReadAs (line : List ℕ) (r : Reading) : Type 0 where
-  pub readable : r.readable ≡ true → Reads line r.triple
-  pub unreadable : r.readable ≡ false → Unreadable line × (r ≡ nothing_read)
+-- The triple of a readable line; None where it is not readable.
+abbrev pub ReadAs : List ℕ → Option Triple → Type 0
+ReadAs line None = Unreadable line
+ReadAs line (Some t) = Reads line t
 
 -- ---- its card
 

@@ -1,5 +1,5 @@
 -- Serves inside: the number that stands at the front of a text.
-use Rattle.std.specs.Prelude.{◌≡◌, ◌≢◌, List, [], ◌∷◌, ◌++◌, ℕ, ◌≤◌, length, take, drop}
+use Rattle.std.specs.Prelude.{◌≡◌, List, [], ◌∷◌, ◌++◌, ℕ, ◌≤◌, length, take, drop}
 use Rattle.cards.specs.Texts.{space, Digit, Digits, Number}
 
 -- The text does not begin with a digit.
@@ -23,13 +23,6 @@ pub record Front (text : List ℕ) (n : ℕ) (rest : List ℕ) : Type 0 where
 -- No number stands at the front of the text with such a rest.
 abbrev pub NoFront : (List ℕ → Type 0) → List ℕ → Type 0
 NoFront Such text = (m : ℕ) (other : List ℕ) → Such other → ¬ Front text m other
-
--- A search for a number at the front of a text, with such a rest. Where it got past something, the number was found, with the rest
--- that is named; 0 says that no number stands there with such a rest.
-pub record Search (Such : List ℕ → Type 0) (text : List ℕ) (past n : ℕ) (rest : List ℕ) : Type 0 where
-  pub within : past ≤ length text
-  pub found : past ≢ 0 → Front text n rest × Such rest
-  pub none : past ≡ 0 → NoFront Such text
 
 -- Any rest; a rest that begins with a space; no rest.
 abbrev pub Anything : List ℕ → Type 0

@@ -1,15 +1,16 @@
 // The card of a line.
-ghost use Rattle.std.specs.Prelude.{[], ◌∷◌, ◌+◌, ◌*◌, ◌≤◌, length, take};
+ghost use Rattle.std.specs.Prelude.{◌≡◌, [], ◌∷◌, ◌++◌, ◌+◌, ◌*◌, ◌≤◌, length};
 ghost use Rattle.triples.specs.Shuffles.{Shuffle};
-ghost use Rattle.cards.specs.Texts.{fields, listing, Appended, Wrote};
+ghost use Rattle.cards.specs.Texts.{fields, listing, Wrote};
 ghost use Rattle.cards.specs.Cards.{room, members, unreadable_card, refused_word, ok_word, row, FactsOf, told, TripleCard, CardOf};
-ghost use Rattle.cards.specs.Widths.{field_room, AppendedWithin};
+ghost use Rattle.cards.specs.Widths.{field_room};
 
 use crate::reading::read;
-use crate::writing::{byte, field, number, word};
+use crate::writing::Text;
 use triples::Triple;
 
-// What the card of a shuffle tells of it: the inverse, P, Q and the spread.
+// What the card of a shuffle tells of it: the inverse, P, Q and the spread. The inverse is a degree and thirteen places, as `FactsOf` says
+// it, which is under the promise that no second card fits.
 #[derive(Drop)]
 pub struct Facts {
     pub degree: u32,
@@ -37,80 +38,78 @@ fn facts_of(t: Triple) -> Facts
 }
 
 // The numbers of the triple, which every readable line's card begins with.
-fn begin(out: &mut [u8], at: usize, t: Triple) -> usize
-    requires { at + 3 * field_room ≤ length out.old }
-    ensures { AppendedWithin (3 * field_room) out.old at (listing (members t)) out.new result }
+#[tactic(auto, using(crate::proofs::Decimals::decimal_length))]
+fn begin(t: Triple) -> Text
+    ensures text { result ≡ listing (members t) }
+    ensures short { length result ≤ 3 * field_room }
 {
-    let second = number(out, at, t.k);
-    let third = field(out, second, t.f1);
-    field(out, third, t.f2)
+    let mut text = Text::new();
+    text.push_number(t.k);
+    text.push_field(t.f1);
+    text.push_field(t.f2);
+    text
 }
 
-fn refused(out: &mut [u8], at: usize, t: Triple, n: u32) -> usize
-    requires { at + room ≤ length out.old }
-    ensures { Appended out.old at (row t refused_word (n ∷ [])) out.new result }
+fn refused(t: Triple, n: u32) -> Text
+    ensures { result ≡ row t refused_word (n ∷ []) }
 {
-    let worded = begin(out, at, t);
-    let numbered = word(out, worded, b" refused");
-    let ended = field(out, numbered, n);
-    byte(out, ended, b'\n')
+    let mut text = begin(t);
+    text.push_word(b" refused");
+    text.push_field(n);
+    text.push(b'\n');
+    text
 }
 
-// The coefficients of the inverse.
-fn coefficients(out: &mut [u8], at: usize, degree: usize, a: [u32; 13]) -> usize
-    requires { (degree ≤ 13) × (at + 13 * field_room ≤ length out.old) }
-    ensures { AppendedWithin (13 * field_room) out.old at (fields (take degree a)) out.new result }
+fn push_fields(text: &mut Text, numbers: &[u32])
+    requires { length text.old + field_room * length numbers.now ≤ room }
+    ensures text { text.new ≡ text.old ++ fields numbers.now }
+    ensures short { length text.new ≤ length text.old + field_room * length numbers.now }
 {
-    let mut end = at;
-    let mut i = 0;
-    while i < degree {
-        end = field(out, end, a[i]);
-        i += 1;
+    for &n in numbers {
+        text.push_field(n);
     }
-    end
 }
 
-// D, a1 to aD, P, Q and the spread.
-fn numbers(out: &mut [u8], at: usize, facts: Facts) -> usize
-    requires { (facts.degree ≤ 13) × (at + 17 * field_room ≤ length out.old) }
-    ensures { AppendedWithin (17 * field_room) out.old at (fields (told facts)) out.new result }
+fn accepted(t: Triple, facts: Facts) -> Text
+    requires { facts.degree ≤ 13 }
+    ensures { result ≡ row t ok_word (told facts) }
 {
-    let a = facts.a;
-    let after_degree = field(out, at, facts.degree);
-    let after_inverse = coefficients(out, after_degree, facts.degree as usize, a);
-    let after_p = field(out, after_inverse, facts.p);
-    let after_q = field(out, after_p, facts.q);
-    field(out, after_q, facts.spread)
-}
-
-fn accepted(out: &mut [u8], at: usize, t: Triple, facts: Facts) -> usize
-    requires { (facts.degree ≤ 13) × (at + room ≤ length out.old) }
-    ensures { Appended out.old at (row t ok_word (told facts)) out.new result }
-{
-    let worded = begin(out, at, t);
-    let numbered = word(out, worded, b" ok");
-    let ended = numbers(out, numbered, facts);
-    byte(out, ended, b'\n')
+    let mut text = begin(t);
+    text.push_word(b" ok");
+    text.push_field(facts.degree);
+    push_fields(&mut text, &facts.a[..facts.degree as usize]);
+    push_fields(&mut text, &[facts.p, facts.q, facts.spread]);
+    text.push(b'\n');
+    text
 }
 
 // The card of a line that reads as a triple.
-fn of_triple(t: Triple, out: &mut [u8], at: usize) -> usize
-    requires { at + room ≤ length out.old }
-    ensures { Wrote (TripleCard t) out.old at out.new result }
+fn of_triple(t: Triple) -> Text
+    ensures { TripleCard t result }
 {
     let refusal = refusals::accept(t);
     if refusal != refusals::DONE {
-        return refused(out, at, t, refusal);
+        return refused(t, refusal);
     }
-    accepted(out, at, t, facts_of(t))
+    accepted(t, facts_of(t))
 }
 
 // The card of a line that is not readable.
-pub fn unreadable(out: &mut [u8], at: usize) -> usize
-    requires { at + room ≤ length out.old }
-    ensures { Appended out.old at unreadable_card out.new result }
+pub fn unreadable() -> Text
+    ensures { result ≡ unreadable_card }
 {
-    word(out, at, b"unreadable\n")
+    let mut text = Text::new();
+    text.push_word(b"unreadable\n");
+    text
+}
+
+fn card_of(line: &[u8]) -> Text
+    ensures { CardOf line.now result }
+{
+    match read(line) {
+        Some(t) => of_triple(t),
+        None => unreadable(),
+    }
 }
 
 // Writes the card of a line, which comes without its newline, and answers where the card ends.
@@ -118,9 +117,5 @@ pub fn card(line: &[u8], out: &mut [u8], at: usize) -> usize
     requires { at + room ≤ length out.old }
     ensures { Wrote (CardOf line.now) out.old at out.new result }
 {
-    let reading = read(line);
-    if reading.readable {
-        return of_triple(reading.triple, out, at);
-    }
-    unreadable(out, at)
+    card_of(line).write(out, at)
 }

@@ -9,5 +9,6 @@ mod writing;
 
 pub use composing::{Facts, card};
 pub use lines::Line;
-pub use reading::{Reading, read};
-pub use streaming::{Fed, ROOM, feed, finish};
+pub use reading::read;
+pub use streaming::{Fed, feed, finish};
+pub use writing::ROOM;

@@ -1,161 +1,65 @@
 // A triple from a line, which may hold any bytes, and any number of them.
-ghost use Rattle.std.specs.Prelude.{◌≡◌, ◌∷◌, [], ◌≤◌, length, drop};
-ghost use Rattle.numbers.specs.Decision.{Decides};
-ghost use Rattle.cards.specs.Texts.{space, Digit, Digits, spelt, most_digits};
-ghost use Rattle.cards.specs.Fronts.{Run, Search, Anything, Spaced, NoMore};
-ghost use Rattle.cards.specs.Cards.{nothing_read, ReadAs};
+ghost use Rattle.std.specs.Prelude.{◌≡◌, ◌∷◌, [], ◌≤◌, length, MatchOption};
+ghost use Rattle.cards.specs.Texts.{space, Digits, spelt, most_digits};
+ghost use Rattle.cards.specs.Fronts.{Run, Front, NoFront, Anything, Spaced, NoMore};
+ghost use Rattle.cards.specs.Cards.{ReadAs};
 
 use triples::Triple;
 
 const MOST_DIGITS: usize = 5;
 
-fn is_digit(byte: u8) -> bool
-    ensures { Decides (Digit byte) result }
-{
-    if byte < b'0' {
-        return false;
-    }
-    if byte > b'9' {
-        return false;
-    }
-    true
-}
-
 // Where the digits at the front of a text end.
 fn run(text: &[u8]) -> usize
     ensures { Run text.now result }
 {
-    let mut end = 0;
-    while end < text.len() {
-        if !is_digit(text[end]) {
-            return end;
-        }
-        end += 1;
-    }
-    end
+    text.iter().take_while(|byte| byte.is_ascii_digit()).count()
 }
 
 fn value(digits: &[u8]) -> u32
     requires { Digits digits.now × (length digits.now ≤ most_digits) }
     ensures { result ≡ spelt 0 digits.now }
 {
-    let mut n: u32 = 0;
-    let mut i = 0;
-    while i < digits.len() {
-        n = 10 * n + (digits[i] - b'0') as u32;
-        i += 1;
+    let mut n = 0;
+    for &digit in digits {
+        n = 10 * n + u32::from(digit - b'0');
     }
     n
 }
 
-// A number at the front of a text, and where the search for it got to: 0 where there is none.
-#[derive(Drop)]
-struct Found {
-    past: usize,
-    n: u32,
+// The number at the front of a text, and what comes after it.
+fn number(text: &[u8]) -> Option<(u32, &[u8])>
+    ensures { MatchOption result (NoFront Anything text.now) (λ found. Front text.now found.0 found.1.now) }
+{
+    let (digits, rest) = text.split_at(run(text));
+    if digits.is_empty() || digits.len() > MOST_DIGITS {
+        return None;
+    }
+    Some((value(digits), rest))
 }
 
-fn missing() -> Found
-    ensures { (result.past ≡ 0) × (result.n ≡ 0) }
+// A number with a space after it, and what comes after the space.
+fn spaced(text: &[u8]) -> Option<(u32, &[u8])>
+    ensures { MatchOption result (NoFront Spaced text.now) (λ found. Front text.now found.0 (space ∷ found.1.now)) }
 {
-    Found { past: 0, n: 0 }
-}
-
-fn number(text: &[u8]) -> Found
-    ensures { Search Anything text.now result.past result.n (drop result.past text.now) }
-{
-    let end = run(text);
-    if end == 0 {
-        return missing();
-    }
-    if end > MOST_DIGITS {
-        return missing();
-    }
-    Found {
-        past: end,
-        n: value(&text[..end]),
-    }
-}
-
-// A number and the space after it.
-fn spaced(text: &[u8]) -> Found
-    ensures { Search Spaced text.now result.past result.n (space ∷ drop result.past text.now) }
-{
-    let found = number(text);
-    let end = found.past;
-    if end == 0 {
-        return missing();
-    }
-    if end == text.len() {
-        return missing();
-    }
-    if text[end] != b' ' {
-        return missing();
-    }
-    Found {
-        past: end + 1,
-        n: found.n,
-    }
+    let (n, rest) = number(text)?;
+    let after = rest.strip_prefix(b" ")?;
+    Some((n, after))
 }
 
 // A number that is the whole text.
-fn whole(text: &[u8]) -> Found
-    ensures { Search NoMore text.now result.past result.n [] }
+fn whole(text: &[u8]) -> Option<u32>
+    ensures { MatchOption result (NoFront NoMore text.now) (λ n. Front text.now n []) }
 {
-    let found = number(text);
-    if found.past == text.len() {
-        return found;
-    }
-    missing()
-}
-
-// What comes from a place on.
-fn from(text: &[u8], at: usize) -> &[u8]
-    requires { at ≤ length text.now }
-    ensures { result.now ≡ drop at text.now }
-{
-    &text[at..]
-}
-
-// The triple of a line, and zeros where it is not readable.
-#[derive(Drop)]
-pub struct Reading {
-    pub readable: bool,
-    pub triple: Triple,
-}
-
-fn unreadable() -> Reading
-    ensures { result ≡ nothing_read }
-{
-    Reading {
-        readable: false,
-        triple: Triple { k: 0, f1: 0, f2: 0 },
-    }
+    let (n, rest) = number(text)?;
+    rest.is_empty().then_some(n)
 }
 
 // Reads a line that comes without its newline.
-pub fn read(line: &[u8]) -> Reading
+pub fn read(line: &[u8]) -> Option<Triple>
     ensures { ReadAs line.now result }
 {
-    let first = spaced(line);
-    if first.past == 0 {
-        return unreadable();
-    }
-    let after_first = from(line, first.past);
-    let second = spaced(after_first);
-    if second.past == 0 {
-        return unreadable();
-    }
-    let third = whole(from(after_first, second.past));
-    if third.past == 0 {
-        return unreadable();
-    }
-    Reading {
-        readable: true,
-        triple: Triple {
-            k: first.n,
-            f1: second.n,
-            f2: third.n,
-        },
-    }
+    let (k, after_k) = spaced(line)?;
+    let (f1, after_f1) = spaced(after_k)?;
+    let f2 = whole(after_f1)?;
+    Some(Triple { k, f1, f2 })
 }

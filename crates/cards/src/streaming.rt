@@ -5,32 +5,18 @@ ghost use Rattle.cards.specs.Output.{Output, WroteFor, Prints, FedBy};
 
 use crate::composing::unreadable;
 use crate::lines::Line;
+use crate::writing::ROOM;
 
-// Enough for any card.
-pub const ROOM: usize = 256;
-
-// The line that has not ended, and where its cards end in the buffer.
-#[derive(Drop)]
-struct Progress {
-    line: Line,
-    end: usize,
-}
-
-fn take_byte(line: Line, byte: u8, out: &mut [u8], at: usize) -> Progress
+// Takes a byte of a line: gives the line that has not ended, and where the cards end in the buffer.
+fn take_byte(line: Line, byte: u8, out: &mut [u8], at: usize) -> (Line, usize)
     requires { at + room ≤ length out.old }
-    ensures { WroteFor (Prints (byte ∷ []) result.line) line out.old at out.new result.end }
+    ensures { WroteFor (Prints (byte ∷ []) result.0) line out.old at out.new result.1 }
 {
     if byte == b'\n' {
         let end = line.card(out, at);
-        return Progress {
-            line: Line::new(),
-            end,
-        };
+        return (Line::new(), end);
     }
-    Progress {
-        line: line.push(byte),
-        end: at,
-    }
+    (line.push(byte), at)
 }
 
 // How many bytes of a piece were taken, the line that has not ended, and where the cards end.
@@ -41,21 +27,25 @@ pub struct Fed {
     pub end: usize,
 }
 
-// Takes bytes of a piece until it ends, or until the buffer may have no room for another card.
+// Takes bytes of a piece until it ends, or until the buffer may have no room for another card. The buffer and the place in it are no
+// struct that keeps them: the caller reads and empties the buffer between the calls.
 pub fn feed(piece: &[u8], unended: Line, out: &mut [u8], at: usize) -> Fed
     requires { at ≤ length out.old }
     ensures { FedBy piece.now unended out.old at result out.new }
 {
     let mut line = unended;
     let mut end = at;
-    let mut taken = 0;
-    while taken < piece.len() && ROOM <= out.len() - end {
-        let progress = take_byte(line, piece[taken], out, end);
-        line = progress.line;
-        end = progress.end;
-        taken += 1;
+    for (taken, &byte) in piece.iter().enumerate() {
+        if out.len() - end < ROOM {
+            return Fed { taken, line, end };
+        }
+        (line, end) = take_byte(line, byte, out, end);
     }
-    Fed { taken, line, end }
+    Fed {
+        taken: piece.len(),
+        line,
+        end,
+    }
 }
 
 // At the end of the input: a last line without its newline is not a line of the form asked for, whatever it holds.
@@ -66,5 +56,5 @@ pub fn finish(line: Line, out: &mut [u8], at: usize) -> usize
     if line.size == 0 {
         return at;
     }
-    unreadable(out, at)
+    unreadable().write(out, at)
 }

@@ -1,56 +1,87 @@
-// Text into a lent buffer: each call writes at a place, and answers where the text ends.
-ghost use Rattle.std.specs.Prelude.{[], ◌∷◌, ◌+◌, ◌≤◌, ◌<◌, length};
+// The text of a card, which grows piece by piece and is then written into a lent buffer.
+ghost use Rattle.std.specs.Prelude.{◌≡◌, List, [], ◌∷◌, ◌++◌, ℕ, ◌+◌, ◌≤◌, ◌<◌, length, take};
 ghost use Rattle.cards.specs.Texts.{space, decimal, Appended};
-ghost use Rattle.cards.specs.Widths.{field_room, AppendedWithin};
+ghost use Rattle.cards.specs.Cards.{room};
+ghost use Rattle.cards.specs.Widths.{field_room};
 
-pub fn byte(out: &mut [u8], at: usize, byte: u8) -> usize
-    requires { at < length out.old }
-    ensures { Appended out.old at (byte ∷ []) out.new result }
-{
-    out[at] = byte;
-    at + 1
+use std::marker::Model;
+
+// Enough for any card.
+pub const ROOM: usize = 256;
+
+// The least number of two digits.
+const TWO_DIGITS: u32 = 10;
+
+// An array and a size, and no `Vec`: a card is always written, and memory for a `Vec` may run out.
+#[derive(Drop)]
+pub struct Text {
+    bytes: [u8; ROOM],
+    size: usize,
 }
 
-pub fn word(out: &mut [u8], at: usize, text: &[u8]) -> usize
-    requires { at + length text.now ≤ length out.old }
-    ensures { Appended out.old at text.now out.new result }
-{
-    let mut i = 0;
-    while i < text.len() {
-        out[at + i] = text[i];
-        i += 1;
+impl Model for Text {
+    ghost Value = { List ℕ };
+
+    ghost view = { λ text. take text.size text.bytes };
+
+    ghost invariant = { λ text. text.size ≤ room };
+}
+
+impl Text {
+    pub fn new() -> Text
+        ensures { result ≡ [] }
+    {
+        Text {
+            bytes: [0; ROOM],
+            size: 0,
+        }
     }
-    at + i
-}
 
-// A number without leading zeros.
-fn digits(out: &mut [u8], at: usize, n: u32) -> usize
-    requires { at + length (decimal n) ≤ length out.old }
-    ensures { Appended out.old at (decimal n) out.new result }
-{
-    let last = 48 + (n % 10) as u8;
-    if n < 10 {
-        out[at] = last;
-        return at + 1;
+    pub fn push(&mut self, byte: u8)
+        requires { length self.old < room }
+        ensures { self.new ≡ self.old ++ (byte ∷ []) }
+    {
+        self.bytes[self.size] = byte;
+        self.size += 1;
     }
-    let end = digits(out, at, n / 10);
-    out[end] = last;
-    end + 1
-}
 
-// A number takes at most ten bytes.
-pub fn number(out: &mut [u8], at: usize, n: u32) -> usize
-    requires { at + 10 ≤ length out.old }
-    ensures { AppendedWithin 10 out.old at (decimal n) out.new result }
-{
-    digits(out, at, n)
-}
+    pub fn push_word(&mut self, word: &[u8])
+        requires { length self.old + length word.now ≤ room }
+        ensures { self.new ≡ self.old ++ word.now }
+    {
+        for &byte in word {
+            self.push(byte);
+        }
+    }
 
-// A space and a number.
-pub fn field(out: &mut [u8], at: usize, n: u32) -> usize
-    requires { at + field_room ≤ length out.old }
-    ensures { AppendedWithin field_room out.old at (space ∷ decimal n) out.new result }
-{
-    let start = byte(out, at, b' ');
-    number(out, start, n)
+    // A number without leading zeros. No `write!`: it may fail, and nothing says that it does not where there is room.
+    pub fn push_number(&mut self, n: u32)
+        requires { length self.old + length (decimal n) ≤ room }
+        ensures { self.new ≡ self.old ++ decimal n }
+    {
+        if n >= TWO_DIGITS {
+            self.push_number(n / 10);
+        }
+        self.push(b'0' + (n % 10) as u8);
+    }
+
+    // A space and a number.
+    pub fn push_field(&mut self, n: u32)
+        requires { length self.old + field_room ≤ room }
+        ensures text { self.new ≡ self.old ++ (space ∷ decimal n) }
+        ensures short { length self.new ≤ length self.old + field_room }
+    {
+        self.push(b' ');
+        self.push_number(n);
+    }
+
+    // Writes the text at a place of a buffer, and answers where it ends there.
+    pub fn write(&self, out: &mut [u8], at: usize) -> usize
+        requires { at + room ≤ length out.old }
+        ensures { Appended out.old at self.now out.new result }
+    {
+        let end = at + self.size;
+        out[at..end].copy_from_slice(&self.bytes[..self.size]);
+        end
+    }
 }

@@ -1,8 +1,8 @@
--- `accepted`: what the four calls write, one after the other, is the row.
-use Rattle.cards.proofs.Buffers.{appended_then}
+use Rattle.std.proofs.Common.{append_assoc}
+use Rattle.cards.proofs.Buffers.{fields_then}
 use Rattle.cards.proofs.composing.accepted.Goals as goal
 
 pub returns : goal.returns
 returns c =
-    appended_then c.begin-worded.ensures.written
-    (appended_then c.word-numbered.ensures (appended_then c.numbers-ended.ensures.written c.byte.ensures))
+    rw (c.push.ensures, c.push_fields-2.ensures.text, c.push_fields.ensures.text, c.push_field.ensures.text, c.push_word.ensures, c.begin-text.ensures.text)
+    (simp (fields_then, append_assoc))

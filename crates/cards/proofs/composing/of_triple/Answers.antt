@@ -1,16 +1,11 @@
 -- `of_triple`: the number that `accept` gives says which of the two cards it is.
 use native.Mathlib.Omega.{arith}
-use Rattle.refusals.proofs.Acceptance.{accepted}
-use Rattle.cards.proofs.Contents.{card_refused, card_accepted}
+use Rattle.cards.specs.Cards.{refused, accepted as accepted_card}
 use Rattle.cards.proofs.composing.of_triple.Goals as goal
 
 pub returns-then-refusal-ne-DONE : goal.returns-then-refusal-ne-DONE
-returns-then-refusal-ne-DONE c =
-    card_refused c.accept-refusal.ensures (omega arith) c.refused.ensures
-
-pub facts_of-requires : goal.facts_of-requires
-facts_of-requires c = accepted c.accept-refusal.ensures (omega arith)
+returns-then-refusal-ne-DONE c = refused _ c.accept-refusal.ensures (omega arith) c.refused.ensures
 
 pub returns : goal.returns
 returns c =
-    card_accepted c.accept-refusal.ensures (omega arith) c.facts_of.ensures c.accepted.ensures
+    let none = rw c.if-refusal-ne-DONE.false at c.accept-refusal.ensures in accepted_card _ none c.facts_of.ensures c.accepted.ensures

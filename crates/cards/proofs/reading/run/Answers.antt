@@ -1,15 +1,16 @@
-use native.Mathlib.Omega.{arith}
-use borrow.Author.Tests.{not-true, not-false}
-use Rattle.cards.proofs.Numerals.{run_turn, run_stops, run_ends}
+-- `run`: as many digits as the chain counts stand at the front.
+use Rattle.std.proofs.Common.{sym, ◌∙◌, subst, rules, tests}
+use Rattle.std.specs.Char.{is_ascii_digit}
+use Rattle.std.proofs.lemmas.Iterator.{YieldsList-from_slice}
+use Rattle.std.proofs.lemmas.Iterator.Consumers.{count_from_yields_List}
+use Rattle.std.proofs.lemmas.Iterator.Search.{YieldsList-from_take_while}
+use Rattle.std.proofs.lemmas.List.Folds.{length-prefix_len}
+use Rattle.cards.specs.Fronts.{Run}
+use Rattle.cards.proofs.Numerals.{run_found}
 use Rattle.cards.proofs.reading.run.Goals as goal
 
-pub returns-then-not-is_digit : goal.returns-then-not-is_digit
-returns-then-not-is_digit c =
-    run_stops c.loop-end.invariant (omega arith) (c.is_digit.ensures.no_only_if (not-true _ c.if-not-is_digit.true-raw))
-
-pub loop-end-preserved : goal.loop-end-preserved
-loop-end-preserved c =
-    run_turn c.loop-end.invariant (omega arith) (c.is_digit.ensures.yes_only_if (not-false _ c.if-not-is_digit.false-raw))
-
 pub returns : goal.returns
-returns c = run_ends c.loop-end.invariant (omega arith)
+returns c =
+    let text = c.args.text.now in
+    let end = count_from_yields_List c.take_while.result _ c.count.ensures.ran (YieldsList-from_take_while _ is_ascii_digit (YieldsList-from_slice text cc) c.take_while.ensures.closure c.take_while.ensures.done (λ byte b q k. search (rules, tests))) ∙ length-prefix_len is_ascii_digit text in
+    subst (Run text) (sym end) (run_found text)

@@ -1,12 +1,6 @@
--- `value`: n is what the first i digits stand for, and i is at most their number. The digits left fall, so it ends.
--- Before the last of five digits n is below 10,000, so no sum wraps.
-use Prim.Native.Nat.{◌-◌}
-use lib.ListN.{length}
+-- `value`: n is what the digits so far stand for. Before the last of five digits n is below 10,000, so no sum wraps.
 use Rattle.cards.proofs.Numerals.{ValueTo}
 use Rattle.cards.proofs.reading.value.Given as goal
 
-abbrev pub invariant-loop-i : goal.invariant-loop-i
-invariant-loop-i l = ValueTo l.digits l.i l.n
-
-abbrev pub decreases-loop-i : goal.decreases-loop-i
-decreases-loop-i l = length l.digits - l.i
+abbrev pub invariant-loop-digit : goal.invariant-loop-digit
+invariant-loop-digit l = ValueTo l.digits l.digit-index l.n

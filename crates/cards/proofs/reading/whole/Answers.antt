@@ -1,10 +1,10 @@
--- `whole`: a number is found with no rest, where the search got to the end, and only there.
-use native.Mathlib.Omega.{arith}
-use Rattle.cards.proofs.Grammar.{search_none, whole_found, whole_none}
+-- `whole`: no number, or a rest.
+use Rattle.cards.specs.Fronts.{NoMore}
+use Rattle.cards.proofs.Grammar.{none_such, whole_or_none}
 use Rattle.cards.proofs.reading.whole.Goals as goal
 
-pub returns-then-found-text : goal.returns-then-found-text
-returns-then-found-text c = whole_found c.number-found.ensures (omega arith)
+pub returns-in_err-n : goal.returns-in_err-n
+returns-in_err-n c = rw c.from_residual.ensures (none_such NoMore c.in_err-n.ensures)
 
 pub returns : goal.returns
-returns c = search_none _ c.missing.ensures.0 (whole_none c.number-found.ensures (omega arith))
+returns c = rw (c.then_some.ensures, c.is_empty.ensures) (whole_or_none c.in_ok-n.rest.now c.in_ok-n.ensures)

@@ -1,12 +1,7 @@
--- `feed`: the bytes taken so far have printed what they print, and nothing was written if none was taken. The bytes left fall,
--- so it ends. It stops for want of room only after it took one, if there was room for a card at first.
-use Prim.Native.Nat.{◌-◌}
-use lib.ListN.{length}
+-- `feed`: the bytes taken so far have printed what they print, and nothing was written if none was taken. It stops for want of room
+-- only after it took one, if there was room for a card at first.
 use Rattle.cards.proofs.Pieces.{Feeding}
 use Rattle.cards.proofs.streaming.feed.Given as goal
 
 abbrev pub invariant-loop-taken : goal.invariant-loop-taken
 invariant-loop-taken l = Feeding l.piece l.initial.out l.at l.initial.line l.out l.line l.end l.taken
-
-abbrev pub decreases-loop-taken : goal.decreases-loop-taken
-decreases-loop-taken l = length l.piece - l.taken
