@@ -2,36 +2,41 @@
 use mathlib.Core.Path.{◌≡◌, refl, sym, ap, ap₂, ◌∙◌}
 use mathlib.Core.Bool.{Bool, cond, ◌&&◌}
 use mathlib.Core.List.{List, [], ◌∷◌}
-use Prim.Native.Nat.{ℕ, zero, suc, ◌+◌, ◌*◌, ◌/◌, ◌%◌, ◌≤◌, ◌<◌}
+use Prim.Native.Nat.{ℕ, zero, suc, ◌+◌, ◌*◌, ◌-◌, ◌/◌, ◌%◌, ◌≤◌, ◌<◌}
 use native.Mathlib.Omega.{arith}
 use lib.Dec.{T, eqb, eqb→eq}
-use lib.ListN.{length, get_or}
+use lib.ListN.{length, get_or, drop}
+use borrow.Rule.Slice.PartMut.{mid_of}
 use borrow.Author.Tests.{lt-ltb, le-ltb}
+use Rattle.std.proofs.lemmas.List.{get_or-take, get_or-drop}
 use Rattle.numbers.proofs.Computation.{both_parts, every, passes}
 use Rattle.coding.specs.Coders.{delayed, output, earlier, feedback, fed_back, Coding}
-use Rattle.coding.specs.States.{drawn, cells, fed, entering, next, parity, Table, Step, state_at, coded_at, parity_at, TailOf, Ends}
+use Rattle.coding.specs.States.{drawn, cells, fed, entering, next, parity, entry, Table, Step, state_at, coded_at, parity_at, both_at, Ends}
 use Rattle.coding.specs.declared.trellis.Coded.{Coded}
 
 -- ---- the table
 
-abbrev pub follows : List ℕ → ℕ → Bool
-follows table i = eqb (get_or table (2 * i) 0) (next (i / 2) (i % 2)) && eqb (get_or table (2 * i + 1) 0) (parity (i / 2) (i % 2))
+abbrev pub follows : List (ℕ × ℕ) → ℕ → Bool
+follows table i = eqb (entry table (i / 2) (i % 2)).0 (next (i / 2) (i % 2)) && eqb (entry table (i / 2) (i % 2)).1 (parity (i / 2) (i % 2))
 
 -- one test over the whole table, and every entry follows the polynomials
-pub tabled : {table : List ℕ} → length table ≡ 32 → T (every 16 (follows table)) → Table table
+pub tabled : {table : List (ℕ × ℕ)} → length table ≡ 16 → T (every 16 (follows table)) → Table table
 tabled {table} size test = record { size = size; nexts = λ s b l m. (at s b l m).0; parities = λ s b l m. (at s b l m).1 }
   where
-    at : (state bit : ℕ) → state < 8 → bit < 2
-        → (get_or table (bit * 2 + state * 4) 0 ≡ next state bit) × (get_or table (bit * 2 + state * 4 + 1) 0 ≡ parity state bit)
+    at : (state bit : ℕ) → state < 8 → bit < 2 → ((entry table state bit).0 ≡ next state bit) × ((entry table state bit).1 ≡ parity state bit)
     at state bit l m =
         let i = 2 * state + bit in
-        let (n, p) = both_parts (eqb (get_or table (2 * i) 0) (next (i / 2) (i % 2))) (eqb (get_or table (2 * i + 1) 0) (parity (i / 2) (i % 2)))
-        (passes 16 (follows table) test i (omega arith)) in
         let s : i / 2 ≡ state = omega arith in
-        let b : i % 2 ≡ bit = omega arith in (
-          ap (λ (j : ℕ). get_or table j 0) {x = bit * 2 + state * 4} {y = 2 * i} (omega arith) ∙ eqb→eq (get_or table (2 * i) 0) (next (i / 2) (i % 2)) n ∙ ap₂ next s b,
-          ap (λ (j : ℕ). get_or table j 0) {x = bit * 2 + state * 4 + 1} {y = 2 * i + 1} (omega arith) ∙ eqb→eq (get_or table (2 * i + 1) 0) (parity (i / 2) (i % 2)) p ∙ ap₂ parity s b,
-        )
+        let b : i % 2 ≡ bit = omega arith in
+        let followed : T (follows table i) = passes 16 (follows table) test i (omega arith) in
+        let (n, p) = both_parts (eqb (entry table state bit).0 (next state bit)) (eqb (entry table state bit).1 (parity state bit)) (rw (s, b) at followed) in
+        (eqb→eq (entry table state bit).0 (next state bit) n, eqb→eq (entry table state bit).1 (parity state bit) p)
+
+-- from the entry of the bit on, every second one is of the bit
+pub entry_from : (table : List (ℕ × ℕ)) (state bit : ℕ) → state < 8 → bit < 2 → get_or (mid_of bit (16 - bit) table) (2 * state) (0, 0) ≡ entry table state bit
+entry_from table state bit l m =
+    get_or-take (16 - bit) (drop bit table) (2 * state) (0, 0) (omega arith) ∙ get_or-drop bit table (2 * state) (0, 0)
+    ∙ ap (λ (i : ℕ). get_or table i (0, 0)) {x = bit + 2 * state} {y = 2 * state + bit} (omega arith)
 
 pub next_lt : (state bit : ℕ) → state < 8 → next state bit < 8
 next_lt state bit s = omega arith
@@ -119,29 +124,35 @@ module _ (k : ℕ) (block : ℕ → ℕ) where
       ap (state_at k block) {x = k + 3} {y = k + 1 + 1 + 1} (omega arith) ∙ omega (arith, a, b, c, state_lt k)
 
 -- a bit was coded at time n
-pub record CodedAt (k : ℕ) (block : ℕ → ℕ) (n x : ℕ) (r : Coded) : Type 0 where
+pub record CodedAt (k : ℕ) (block : ℕ → ℕ) (n x after z : ℕ) : Type 0 where
   pub x_is : x ≡ coded_at k block n
-  pub z_is : r.parity ≡ parity_at k block n
-  pub state_is : r.state ≡ state_at k block (n + 1)
+  pub z_is : z ≡ parity_at k block n
+  pub state_is : after ≡ state_at k block (n + 1)
 
-pub coded_step : (k : ℕ) (block : ℕ → ℕ) (n : ℕ) {s x : ℕ} {r : Coded} → s ≡ state_at k block n → x ≡ coded_at k block n → Step s x r → CodedAt k block n x r
-coded_step k block n {s} {x} {r} es ex step =
+pub coded_step : (k : ℕ) (block : ℕ → ℕ) (n : ℕ) {s x after z : ℕ} → s ≡ state_at k block n → x ≡ coded_at k block n → Step s x after z
+    → CodedAt k block n x after z
+coded_step k block n es ex step =
     record {
       x_is = ex;
       z_is = step.parity_is ∙ ap₂ parity es ex;
       state_is = step.state_is ∙ ap₂ next es ex ∙ sym (state_next k block n);
     }
 
-pub tail_of : {s x1 x2 x3 : ℕ} {a b c : Coded} → x1 ≡ fed s → Step s x1 a → x2 ≡ fed a.state → Step a.state x2 b → x3 ≡ fed b.state → Step b.state x3 c
-    → Ends s (record { x0 = x1; x1 = x2; x2 = x3; z0 = a.parity; z1 = b.parity; z2 = c.parity })
-tail_of {s} {x1} {x2} {x3} {a} {b} {c} e1 s1 e2 s2 e3 s3 = record { ends = ends }
+-- after the block, what is fed back is coded
+coded_back : (k : ℕ) (block : ℕ → ℕ) (n : ℕ) {s after : ℕ} {r : Coded} → k ≤ n → s ≡ state_at k block n → Step s r.x after r.z → r.x ≡ fed s
+    → (r ≡ both_at k block n) × (after ≡ state_at k block (n + 1))
+coded_back k block n h e step x =
+    let c = coded_step k block n e (x ∙ ap fed e ∙ sym (coded_after k block h)) step in
+    (λ i. record { x = c.x_is i; z = c.z_is i }, c.state_is)
+
+pub ends_by : {s s1 s2 s3 : ℕ} {a b c : Coded} → Step s a.x s1 a.z × (a.x ≡ fed s) → Step s1 b.x s2 b.z × (b.x ≡ fed s1) → Step s2 c.x s3 c.z × (c.x ≡ fed s2)
+    → Ends s (a ∷ b ∷ c ∷ [])
+ends_by {s} {s2 = s2} {a = a} {b = b} {c = c} one two three = record { ends = ends }
   where
-    ends : (k : ℕ) (block : ℕ → ℕ) → s ≡ state_at k block k
-        → TailOf k block (record { x0 = x1; x1 = x2; x2 = x3; z0 = a.parity; z1 = b.parity; z2 = c.parity })
+    ends : (k : ℕ) (block : ℕ → ℕ) → s ≡ state_at k block k → a ∷ b ∷ c ∷ [] ≡ both_at k block k ∷ both_at k block (k + 1) ∷ both_at k block (k + 2) ∷ []
     ends k block e =
-        let one = coded_step k block k e (e1 ∙ ap fed e ∙ sym (coded_after k block {n = k} (omega arith))) s1 in
-        let two = coded_step k block (k + 1) one.state_is (e2 ∙ ap fed one.state_is ∙ sym (coded_after k block {n = k + 1} (omega arith))) s2 in
-        let n : k + 1 + 1 ≡ k + 2 = omega arith in
-        let three = coded_step k block (k + 2) (two.state_is ∙ ap (state_at k block) n)
-        (e3 ∙ ap fed (two.state_is ∙ ap (state_at k block) n) ∙ sym (coded_after k block {n = k + 2} (omega arith))) s3 in
-        record { x0 = one.x_is; z0 = one.z_is; x1 = two.x_is; z1 = two.z_is; x2 = three.x_is; z2 = three.z_is }
+        let first = coded_back k block k (omega arith) e one.0 one.1 in
+        let second = coded_back k block (k + 1) (omega arith) first.1 two.0 two.1 in
+        let at : s2 ≡ state_at k block (k + 2) = second.1 ∙ ap (state_at k block) {x = k + 1 + 1} {y = k + 2} (omega arith) in
+        let third = coded_back k block (k + 2) (omega arith) at three.0 three.1 in
+        λ i. first.0 i ∷ second.0 i ∷ third.0 i ∷ []

@@ -2,74 +2,88 @@
 ghost use Rattle.std.specs.Prelude.{◌≡◌, ◌<◌};
 ghost use Rattle.coding.specs.States.{Table, fed, Step, Ends};
 
-// Sixteen entries of two: for each state, by either bit, the next state and the parity. Entry 2·state + bit; a state holds the three bits
-// that entered last, the newest of weight 4.
-const TABLE: [u8; 32] = [
-    0, 0, 4, 1, 4, 0, 0, 1, 5, 1, 1, 0, 1, 1, 5, 0, 2, 1, 6, 0, 6, 1, 2, 0, 7, 0, 3, 1, 3, 0, 7, 1,
+// Sixteen entries: for each state, by either bit, the next state and the parity.
+static TABLE: [(u8, u8); 16] = [
+    (0, 0),
+    (4, 1),
+    (4, 0),
+    (0, 1),
+    (5, 1),
+    (1, 0),
+    (1, 1),
+    (5, 0),
+    (2, 1),
+    (6, 0),
+    (6, 1),
+    (2, 0),
+    (7, 0),
+    (3, 1),
+    (3, 0),
+    (7, 1),
 ];
 
-// It is handed out, to be taken once and lent: a constant is laid out anew wherever it is named.
-pub fn table() -> [u8; 32]
-    ensures { Table result }
+// They follow the polynomials.
+fn table() -> &'static [(u8, u8); 16]
+    ensures { Table result.now }
 {
-    TABLE
+    &TABLE
 }
 
+// A state holds the three bits that entered last, the newest of weight 4.
 #[derive(Drop)]
+pub struct Coder {
+    state: usize,
+    ghost eight_states: { state < 8 },
+}
+
+// A bit that was coded, and its parity, by the letters of the standard.
+#[derive(Clone, Copy)]
 pub struct Coded {
-    pub state: usize,
-    pub parity: u8,
+    pub x: u8,
+    pub z: u8,
 }
 
-// The three bits that end a coder, and their parities.
-#[derive(Drop)]
-pub struct Tail {
-    pub x0: u8,
-    pub x1: u8,
-    pub x2: u8,
-    pub z0: u8,
-    pub z1: u8,
-    pub z2: u8,
-}
-
-// The bit's part of the place comes first: so it waits for no state, and from state to state there is a single read.
-pub fn code_bit(table: &[u8; 32], state: usize, bit: u8) -> Coded
-    requires { Table table.now × (state < 8) × (bit < 2) }
-    ensures { Step state bit result }
-{
-    let at = bit as usize * 2 + state * 4;
-    Coded {
-        state: table[at] as usize,
-        parity: table[at + 1],
+impl Coder {
+    pub fn new() -> Coder
+        ensures { result.state ≡ 0 }
+    {
+        Coder { state: 0 }
     }
-}
 
-// D² + D³ of what entered.
-fn fed_back(state: usize) -> u8
-    requires { state < 8 }
-    ensures { (result ≡ fed state) × (result < 2) }
-{
-    ((state / 2 + state) % 2) as u8
-}
+    // Takes a bit, and gives its parity.
+    pub fn code(&mut self, bit: u8) -> u8
+        requires { bit < 2 }
+        ensures { Step self.old.state bit self.new.state result }
+    {
+        // The bit's part of the place comes first: so it waits for no state, and from state to state there is a single read.
+        let by_state = &table()[bit as usize..];
+        let (state, parity) = by_state[2 * self.state];
+        self.state = state as usize;
+        parity
+    }
 
-// What is fed back is coded three times, so that zeros enter.
-pub fn end(state: usize) -> Tail
-    requires { state < 8 }
-    ensures { Ends state result }
-{
-    let table = table();
-    let x0 = fed_back(state);
-    let first = code_bit(&table, state, x0);
-    let x1 = fed_back(first.state);
-    let second = code_bit(&table, first.state, x1);
-    let x2 = fed_back(second.state);
-    let third = code_bit(&table, second.state, x2);
-    Tail {
-        x0,
-        x1,
-        x2,
-        z0: first.parity,
-        z1: second.parity,
-        z2: third.parity,
+    // D² + D³ of what entered.
+    fn fed_back(&self) -> u8
+        ensures { (result ≡ fed self.now.state) × (result < 2) }
+    {
+        ((self.state / 2 + self.state) % 2) as u8
+    }
+
+    // Codes what is fed back, so that a zero enters.
+    fn return_to_zero(&mut self) -> Coded
+        ensures { Step self.old.state result.x self.new.state result.z × (result.x ≡ fed self.old.state) }
+    {
+        let x = self.fed_back();
+        Coded { x, z: self.code(x) }
+    }
+
+    // The three bits that end a coder.
+    pub fn end(mut self) -> [Coded; 3]
+        ensures { Ends self.state result }
+    {
+        let first = self.return_to_zero();
+        let second = self.return_to_zero();
+        let third = self.return_to_zero();
+        [first, second, third]
     }
 }
