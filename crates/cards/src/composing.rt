@@ -87,11 +87,10 @@ fn accepted(t: Triple, facts: Facts) -> Text
 fn of_triple(t: Triple) -> Text
     ensures { TripleCard t result }
 {
-    let refusal = refusals::accept(t);
-    if refusal != refusals::DONE {
-        return refused(t, refusal);
+    match refusals::accept(t) {
+        Ok(()) => accepted(t, facts_of(t)),
+        Err(refusal) => refused(t, refusal.into()),
     }
-    accepted(t, facts_of(t))
 }
 
 // The card of a line that is not readable.

@@ -16,21 +16,23 @@ use Rattle.coding.specs.declared.trellis.Coded.{Coded}
 
 -- ---- the table
 
-abbrev pub follows : List (ℕ × ℕ) → ℕ → Bool
-follows table i = eqb (entry table (i / 2) (i % 2)).0 (next (i / 2) (i % 2)) && eqb (entry table (i / 2) (i % 2)).1 (parity (i / 2) (i % 2))
+abbrev pub follows : (ℕ → ℕ → ℕ × ℕ) → ℕ → Bool
+follows read i = eqb (read (i / 2) (i % 2)).0 (next (i / 2) (i % 2)) && eqb (read (i / 2) (i % 2)).1 (parity (i / 2) (i % 2))
 
--- one test over the whole table, and every entry follows the polynomials
-pub tabled : {table : List (ℕ × ℕ)} → length table ≡ 16 → T (every 16 (follows table)) → Table table
-tabled {table} size test = record { size = size; nexts = λ s b l m. (at s b l m).0; parities = λ s b l m. (at s b l m).1 }
-  where
-    at : (state bit : ℕ) → state < 8 → bit < 2 → ((entry table state bit).0 ≡ next state bit) × ((entry table state bit).1 ≡ parity state bit)
-    at state bit l m =
-        let i = 2 * state + bit in
-        let s : i / 2 ≡ state = omega arith in
-        let b : i % 2 ≡ bit = omega arith in
-        let followed : T (follows table i) = passes 16 (follows table) test i (omega arith) in
-        let (n, p) = both_parts (eqb (entry table state bit).0 (next state bit)) (eqb (entry table state bit).1 (parity state bit)) (rw (s, b) at followed) in
-        (eqb→eq (entry table state bit).0 (next state bit) n, eqb→eq (entry table state bit).1 (parity state bit) p)
+-- one test over all sixteen entries, however a table is read, and every entry follows the polynomials
+pub followed : (read : ℕ → ℕ → ℕ × ℕ) → T (every 16 (follows read)) → (state bit : ℕ) → state < 8 → bit < 2
+    → ((read state bit).0 ≡ next state bit) × ((read state bit).1 ≡ parity state bit)
+followed read test state bit l m =
+    let i = 2 * state + bit in
+    let s : i / 2 ≡ state = omega arith in
+    let b : i % 2 ≡ bit = omega arith in
+    let here : T (follows read i) = passes 16 (follows read) test i (omega arith) in
+    let (n, p) = both_parts (eqb (read state bit).0 (next state bit)) (eqb (read state bit).1 (parity state bit)) (rw (s, b) at here) in
+    (eqb→eq (read state bit).0 (next state bit) n, eqb→eq (read state bit).1 (parity state bit) p)
+
+pub tabled : {table : List (ℕ × ℕ)} → length table ≡ 16 → T (every 16 (follows (entry table))) → Table table
+tabled {table} size test =
+    record { size = size; nexts = λ s b l m. (followed (entry table) test s b l m).0; parities = λ s b l m. (followed (entry table) test s b l m).1 }
 
 -- from the entry of the bit on, every second one is of the bit
 pub entry_from : (table : List (ℕ × ℕ)) (state bit : ℕ) → state < 8 → bit < 2 → get_or (mid_of bit (16 - bit) table) (2 * state) (0, 0) ≡ entry table state bit

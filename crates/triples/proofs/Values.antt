@@ -1,7 +1,7 @@
 -- When two positions share a value of f: by the difference of the two values, which is a product.
 use mathlib.Core.Path.{◌≡◌, refl, sym, ap, ◌∙◌}
-use Prim.Native.Nat.{ℕ, ◌+◌, ◌-◌, ◌*◌, ◌/◌, ◌%◌, ◌≤◌, ◌<◌, ◌∣◌}
-use native.Mathlib.Nat.{mul-le-mul, dvd-mul_right, dvd-mul_right_of_dvd, div-add-mod, mod-lt, le_of_dvd}
+use Prim.Native.Nat.{ℕ, ◌+◌, ◌-◌, ◌*◌, ◌/◌, ◌%◌, ◌<◌, ◌∣◌}
+use native.Mathlib.Nat.{dvd-mul_right, dvd-mul_right_of_dvd, div-add-mod, mod-lt, le_of_dvd}
 use native.Mathlib.Omega.{arith}
 use Rattle.numbers.proofs.Congruences.{cong_eq, cong_sym, cong_mod, cong_mul, cong_times, cong_same, same_cong, cong_zero, zero_cong, cong_cancel, cong_add, cong_dvd, ◌⨾◌}
 use Rattle.numbers.proofs.Residues.{Respects}
@@ -13,10 +13,6 @@ use Rattle.triples.specs.Shuffles.{triple, f, quadratic}
 -- f before the remainder
 abbrev pub sum : Triple → ℕ → ℕ
 sum t x = t.f1 * x + t.f2 * (x * x)
-
--- both of its parts are small
-pub line_small : (a x : ℕ) → a ≤ 8191 → x ≤ 8191 → a * x ≤ 8191 * 8191
-line_small a x h l = mul-le-mul {n₁ = a} {m₁ = x} h l
 
 -- f1 + f2·(x + y), at y = x + d
 abbrev pub slope : Triple → ℕ → ℕ → ℕ
