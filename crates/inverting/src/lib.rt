@@ -25,7 +25,7 @@ fn without_constant(p: [u32; 14]) -> [u32; 13]
     array::from_fn(|j| p[j + 1])
 }
 
-// The reciprocal of f1 in the odd form.
+// The reciprocal of f1 in the odd form. That t is a shuffle is a clause here and below, and no type, as that a triple is in range.
 pub fn reciprocal(t: Triple) -> u32
     requires { Shuffle t }
     ensures { Reciprocal t.k (odd_form t).f1 result }

@@ -12,7 +12,8 @@ use triples::Triple;
 // not do: the error below would reach a whole place.
 const SCALE: u64 = 2251799813685248;
 
-// The length, and the coefficients in parts of which SCALE make K.
+// The length, and the coefficients in parts of which SCALE make K. That they are small enough, `Sound`, is a clause and no invariant of the type: it
+// is part of what `MapOf` promises, and `place` asks for no more.
 #[derive(Clone, Copy)]
 pub struct Map {
     pub k: u32,
@@ -23,7 +24,8 @@ pub struct Map {
 // The map of a triple. SCALE/K is seldom whole, so that one of the two whole numbers beside it stands for it. Its error, times
 // f1·x + f2·x², must make the place too high by less than one, and never too low. The number above does so where f2 is at most half of
 // K. Otherwise both coefficients are counted down from K with the number below: too little is taken away, so that the place is again too
-// high, and K - f2 is less than half of K. SCALE is K·below + rest, so that SCALE - (K - f1)·below is f1·below + rest.
+// high, and K - f2 is less than half of K. SCALE is K·below + rest, so that SCALE - (K - f1)·below is f1·below + rest. It is no `From`: that would
+// have to make a map of any triple.
 pub fn map_of(t: Triple) -> Map
     requires { InRange t }
     ensures { MapOf t result }

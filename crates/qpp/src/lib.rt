@@ -1,5 +1,6 @@
 // The interleaver's calls. None trusts its caller: each takes numbers and buffers as they come, tests what it is given, and answers or
-// refuses by a row of the table. `qpp_c` exports each under its name for C.
+// refuses by a row of the table. `qpp_c` exports each under its name for C. K, f1 and f2 come one by one, and not as a `Triple`: every entry point
+// takes the numbers themselves.
 #![tactic(auto)]
 
 mod answers;
