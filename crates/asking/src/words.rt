@@ -1,138 +1,88 @@
-// The words of a line, from left to right.
-ghost use Rattle.std.specs.Prelude.{◌≡◌, ◌≤◌, length};
+// The words of a line, from left to right, and what may be wrong with them.
 
 use crate::scan::find;
+use thiserror::Error;
 
 // What is wrong with a word.
-pub const FINE: u8 = 0;
+#[derive(Clone, Copy, Debug, PartialEq, Eq, Error)]
+pub enum Fault {
+    #[error("no such call")]
+    NoCall,
+    #[error("no number")]
+    NoNumber,
+    #[error("a number above 4294967295")]
+    LargeNumber,
+    #[error("no list")]
+    NoList,
+    #[error("an entry out of range")]
+    OutOfRange,
+    #[error("a list of more than 8200 entries")]
+    LongList,
+    #[error("too few words")]
+    FewWords,
+    #[error("too many words")]
+    ManyWords,
+}
 
-pub const NO_CALL: u8 = 1;
-
-pub const NO_NUMBER: u8 = 2;
-
-pub const LARGE_NUMBER: u8 = 3;
-
-pub const NO_LIST: u8 = 4;
-
-pub const OUT_OF_RANGE: u8 = 5;
-
-pub const LONG_LIST: u8 = 6;
-
-pub const FEW_WORDS: u8 = 7;
-
-pub const MANY_WORDS: u8 = 8;
-
-// Where the present word stands and the how manieth it is; what number it is, or how long a list; of what kind the call is, or
-// the list; and what was wrong first.
+// The line after the words that were asked for, and how many those are.
 #[derive(Clone, Copy)]
-pub struct Reader {
-    pub from: usize,
-    pub end: usize,
-    pub word: u8,
-    pub n: u32,
-    pub kind: u8,
-    pub fault: u8,
+pub struct Words<'a> {
+    rest: &'a [u8],
+    asked: u32,
 }
 
-pub fn begin() -> Reader
-    ensures { result.end ≡ 0 }
-{
-    Reader {
-        from: 0,
-        end: 0,
-        word: 0,
-        n: 0,
-        kind: 0,
-        fault: FINE,
+impl<'a> Iterator for Words<'a> {
+    type Item = &'a [u8];
+
+    // A word that is asked for counts also where the line has none.
+    fn next(&mut self) -> Option<&'a [u8]> {
+        self.asked = self.asked.saturating_add(1);
+        let start = self.rest.iter().position(|byte| *byte != b' ')?;
+        let line = &self.rest[start..];
+        let (word, rest) = line.split_at(find(line, 0, line.len(), b' '));
+        self.rest = rest;
+        Some(word)
     }
 }
 
-// Notes a fault, unless there was one before.
-pub fn failed(mut r: Reader, fault: u8) -> Reader
-    ensures { (result.from ≡ r.from) × (result.end ≡ r.end) × (result.n ≡ 0) }
-{
-    r.n = 0;
-    if r.fault == FINE {
-        r.fault = fault;
-    }
-    r
-}
-
-fn past_spaces(line: &[u8], from: usize) -> usize
-    requires { from ≤ length line.now }
-    ensures { result ≤ length line.now }
-{
-    let mut at = from;
-    while at < line.len() {
-        if line[at] != b' ' {
-            return at;
+impl<'a> Words<'a> {
+    pub fn of(line: &'a [u8]) -> Self {
+        Words {
+            rest: line,
+            asked: 0,
         }
-        at += 1;
     }
-    at
+
+    pub fn asked(&self) -> u32 {
+        self.asked
+    }
+
+    pub fn take_word(&mut self) -> Result<&'a [u8], Fault> {
+        self.next().ok_or(Fault::FewWords)
+    }
+
+    pub fn take_number(&mut self) -> Result<u32, Fault> {
+        let word = self.take_word()?;
+        let number = number_of(word).ok_or(Fault::NoNumber)?;
+        u32::try_from(number).map_err(|_| Fault::LargeNumber)
+    }
+
+    // No word may be left.
+    pub fn end(&mut self) -> Result<(), Fault> {
+        match self.next() {
+            Some(_) => Err(Fault::ManyWords),
+            None => Ok(()),
+        }
+    }
 }
 
-// The next word; where the line has none it is empty, and missed. A line has few words, so their count never wraps.
-pub fn next(line: &[u8], mut r: Reader) -> Reader
-    requires { r.end ≤ length line.now }
-    ensures { (result.from ≤ result.end) × (result.end ≤ length line.now) }
-{
-    let from = past_spaces(line, r.end);
-    let end = find(line, from, line.len(), b' ');
-    r.from = from;
-    r.end = end;
-    r.word = r.word.wrapping_add((r.fault == FINE) as u8);
-    if from == end {
-        return failed(r, FEW_WORDS);
+// The number that digits alone make; one past 64 bits counts as the largest, since every limit lies far below it.
+pub fn number_of(text: &[u8]) -> Option<u64> {
+    if text.is_empty() {
+        return None;
     }
-    r
-}
-
-const MOST: u64 = 4294967295;
-
-// The value of a text that is not digits alone.
-pub const NONE: u64 = u64::MAX;
-
-// A number with a digit more. What is none stays none, and what is too large for 32 bits stays too large.
-fn longer(value: u64, digit: u8) -> u64 {
-    if digit < b'0' {
-        return NONE;
-    }
-    if digit > b'9' {
-        return NONE;
-    }
-    if value > MOST {
-        return value;
-    }
-    10 * value + (digit % 16) as u64
-}
-
-pub fn value_of(text: &[u8]) -> u64 {
-    if text.len() == 0 {
-        return NONE;
-    }
-    let mut value = 0;
-    for i in 0..text.len() {
-        value = longer(value, text[i]);
-    }
-    value
-}
-
-// The next word as a number.
-pub fn take_number(line: &[u8], r: Reader) -> Reader
-    requires { r.end ≤ length line.now }
-    ensures { result.end ≤ length line.now }
-{
-    let mut taken = next(line, r);
-    let from = taken.from;
-    let end = taken.end;
-    let value = value_of(&line[from..end]);
-    if value == NONE {
-        return failed(taken, NO_NUMBER);
-    }
-    if value > MOST {
-        return failed(taken, LARGE_NUMBER);
-    }
-    taken.n = value as u32;
-    taken
+    text.iter().try_fold(0u64, |number, byte| {
+        let digit = char::from(*byte).to_digit(10)?;
+        Some(number.saturating_mul(10).saturating_add(u64::from(digit)))
+    })
 }
