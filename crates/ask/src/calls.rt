@@ -54,7 +54,7 @@ fn show_list<W: Write, L: List>(out: &mut W, list: &L) -> io::Result<()> {
 }
 
 fn show_checksum<W: Write>(out: &mut W, list: &Vec<u8>) -> io::Result<()> {
-    write!(out, " {}", crc::of_bytes(list))
+    write!(out, " {}", crc::of_list(list))
 }
 
 fn show_value<W: Write>(out: &mut W, v: Value) -> io::Result<()> {

@@ -60,7 +60,7 @@ fn answer(alloc: Global, line: &[u8]) -> io::Result<Vec<u8>> {
     let mut words = Words::of(line);
     match Question::read(alloc, &mut words) {
         Ok(question) => question.answer(&mut out)?,
-        Err(Trouble::Word(fault)) => write!(out, "? word {}: {fault}", words.asked())?,
+        Err(Trouble::Word(fault)) => write!(out, "? word {}: {fault}", words.asked)?,
         Err(Trouble::Memory(error)) => return Err(error.into()),
     }
     writeln!(out)?;

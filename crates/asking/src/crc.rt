@@ -14,8 +14,8 @@ fn take_byte(sum: u32, byte: u8) -> u32 {
     (0..u8::BITS).fold(sum ^ u32::from(byte), |sum, _| take_bit(sum))
 }
 
-pub fn of_bytes(bytes: &[u8]) -> u32 {
-    !bytes
+pub fn of_list(list: &[u8]) -> u32 {
+    !list
         .iter()
         .fold(u32::MAX, |sum, byte| take_byte(sum, *byte))
 }

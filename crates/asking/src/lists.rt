@@ -1,4 +1,5 @@
 // The lists of a line.
+ghost use Rattle.std.specs.Prelude.{◌≡◌, ℕ, ◌≤◌, IfOk, OnOk, vec_len};
 
 use crate::printing::Joined;
 use crate::scan::find;
@@ -38,28 +39,58 @@ fn times_of(text: &[u8]) -> Option<u64> {
     }
 }
 
-// Adds an entry, with a star and its count or without.
-fn add_entry<T: Copy + TryFrom<i64, Error = TryFromIntError>>(
-    text: &[u8],
-    list: &mut Vec<T>,
-) -> Result<(), Trouble> {
-    let (number, star) = text.split_at(find(text, 0, text.len(), b'*'));
-    let number = signed(number).ok_or(Fault::NoList)?;
-    let times = times_of(star).ok_or(Fault::NoList)?;
-    let entry = T::try_from(number).map_err(|_| Fault::OutOfRange)?;
-    let size = times.saturating_add(list.len() as u64);
-    if size > LONGEST {
-        return Err(Trouble::Word(Fault::LongList));
+// The entries of a list, never more than the longest has.
+#[derive(Drop)]
+struct Entries<T> {
+    items: Vec<T>,
+    ghost short: { vec_len items ≤ 8200 },
+}
+
+impl<T: Copy + TryFrom<i64, Error = TryFromIntError>> Entries<T> {
+    // Adds an entry, with a star and its count or without.
+    fn add(&mut self, text: &[u8]) -> Result<(), Trouble> {
+        let (number, star) = text.split_at(find(text, 0, text.len(), b'*'));
+        let number = signed(number).ok_or(Fault::NoList)?;
+        let times = times_of(star).ok_or(Fault::NoList)?;
+        let entry = T::try_from(number).map_err(|_| Fault::OutOfRange)?;
+        let size = times.saturating_add(self.items.len() as u64);
+        if size > LONGEST {
+            return Err(Trouble::Word(Fault::LongList));
+        }
+        self.items.resize(size as usize, entry)?;
+        Ok(())
     }
-    list.resize(size as usize, entry)?;
-    Ok(())
+
+    // Numbers with commas between them. A dash is the empty list.
+    fn add_all(&mut self, word: &[u8]) -> Result<(), Trouble> {
+        if word == b"-".as_slice() {
+            return Ok(());
+        }
+        for text in word.split(|byte| *byte == b',') {
+            self.add(text)?;
+        }
+        Ok(())
+    }
+
+    fn read(alloc: Global, word: &[u8]) -> Result<Vec<T>, Trouble>
+        ensures { IfOk result (λ list. vec_len list ≤ 8200) }
+    {
+        let mut list = Entries {
+            items: Vec::new(alloc),
+        };
+        list.add_all(word)?;
+        Ok(list.items)
+    }
 }
 
 // A list as one word has it.
 pub trait List: Drop {
     type Entry;
 
-    fn read(alloc: Global, word: &[u8]) -> Result<Self, Trouble>;
+    ghost count: { Self → ℕ };
+
+    fn read(alloc: Global, word: &[u8]) -> Result<Self, Trouble>
+        ensures { IfOk result (λ list. count list ≤ 8200) };
 
     fn entries(&mut self) -> &mut [Self::Entry];
 
@@ -68,23 +99,19 @@ pub trait List: Drop {
 }
 
 // The next word as a list.
-pub fn take_list<L: List>(alloc: Global, words: &mut Words<'_>) -> Result<L, Trouble> {
+pub fn take_list<L: List>(alloc: Global, words: &mut Words<'_>) -> Result<L, Trouble>
+    ensures { IfOk result (λ list. L.count list ≤ 8200) }
+{
     L::read(alloc, words.take_word()?)
 }
 
 impl<T: Copy + Display + TryFrom<i64, Error = TryFromIntError>> List for Vec<T> {
     type Entry = T;
 
-    // Numbers with commas between them. A dash is the empty list.
+    ghost count = { λ list. vec_len list };
+
     fn read(alloc: Global, word: &[u8]) -> Result<Self, Trouble> {
-        let mut list = Vec::new(alloc);
-        if word == b"-".as_slice() {
-            return Ok(list);
-        }
-        for text in word.split(|byte| *byte == b',') {
-            add_entry(text, &mut list)?;
-        }
-        Ok(list)
+        Entries::read(alloc, word)
     }
 
     fn entries(&mut self) -> &mut [T] {
@@ -107,7 +134,11 @@ pub enum Bytes {
 }
 
 impl Bytes {
-    pub fn into_vec(self) -> Vec<u8> {
+    ghost use Rattle.asking.specs.Bytes.{size_of};
+
+    pub fn into_vec(self) -> Vec<u8>
+        ensures { vec_len result ≡ size_of self }
+    {
         match self {
             Bytes::Numbers(bytes) | Bytes::Text(bytes) => bytes,
         }
@@ -115,12 +146,16 @@ impl Bytes {
 }
 
 impl List for Bytes {
+    ghost use Rattle.asking.specs.Bytes.{size_of};
+
     type Entry = u8;
+
+    ghost count = { λ bytes. size_of bytes };
 
     // A word that begins with a letter is a text.
     fn read(alloc: Global, word: &[u8]) -> Result<Self, Trouble> {
         if !word.first().is_some_and(u8::is_ascii_alphabetic) {
-            return Ok(Bytes::Numbers(Vec::read(alloc, word)?));
+            return Ok(Bytes::Numbers(Entries::read(alloc, word)?));
         }
         if word.len() as u64 > LONGEST {
             return Err(Trouble::Word(Fault::LongList));

@@ -1,5 +1,7 @@
 // The words of a line, from left to right, and what may be wrong with them.
 
+ghost use Rattle.std.specs.Prelude.{◌≡◌, ◌≢◌, ◌+◌, ◌-◌, ◌^◌, ◌≤◌, ◌<◌, ◌↔◌, All, IsSome, IsNone, IsOk, IfSome, IfOk, IsErr, IfErr, length, min};
+
 use crate::scan::find;
 use thiserror::Error;
 
@@ -27,62 +29,78 @@ pub enum Fault {
 // The line after the words that were asked for, and how many those are.
 #[derive(Clone, Copy)]
 pub struct Words<'a> {
-    rest: &'a [u8],
-    asked: u32,
-}
-
-impl<'a> Iterator for Words<'a> {
-    type Item = &'a [u8];
-
-    // A word that is asked for counts also where the line has none.
-    fn next(&mut self) -> Option<&'a [u8]> {
-        self.asked = self.asked.saturating_add(1);
-        let start = self.rest.iter().position(|byte| *byte != b' ')?;
-        let line = &self.rest[start..];
-        let (word, rest) = line.split_at(find(line, 0, line.len(), b' '));
-        self.rest = rest;
-        Some(word)
-    }
+    pub rest: &'a [u8],
+    pub asked: u32,
 }
 
 impl<'a> Words<'a> {
-    pub fn of(line: &'a [u8]) -> Self {
+    pub fn of(line: &'a [u8]) -> Self
+        ensures rest { result.rest.now ≡ line.now }
+        ensures asked { result.asked ≡ 0 }
+    {
         Words {
             rest: line,
             asked: 0,
         }
     }
 
-    pub fn asked(&self) -> u32 {
-        self.asked
+    // A word that is asked for counts also where the line has none.
+    pub fn take_word(&mut self) -> Result<&'a [u8], Fault>
+        ensures counted { self.new.asked ≡ min (self.old.asked + 1) (2 ^ 32 - 1) }
+        ensures word { IfOk result (λ word. (0 < length word.now) × All (λ byte. byte ≢ 32) word.now) }
+        ensures few { IsErr result ↔ All (λ byte. byte ≡ 32) self.old.rest.now }
+        ensures fault { IfErr result (λ fault. fault ≡ Fault.FewWords) }
+    {
+        self.asked = self.asked.saturating_add(1);
+        let (word, rest) = first_word(self.rest).ok_or(Fault::FewWords)?;
+        self.rest = rest;
+        Ok(word)
     }
 
-    pub fn take_word(&mut self) -> Result<&'a [u8], Fault> {
-        self.next().ok_or(Fault::FewWords)
-    }
-
-    pub fn take_number(&mut self) -> Result<u32, Fault> {
+    pub fn take_number(&mut self) -> Result<u32, Fault>
+        ensures { self.new.asked ≡ min (self.old.asked + 1) (2 ^ 32 - 1) }
+    {
         let word = self.take_word()?;
         let number = number_of(word).ok_or(Fault::NoNumber)?;
         u32::try_from(number).map_err(|_| Fault::LargeNumber)
     }
 
     // No word may be left.
-    pub fn end(&mut self) -> Result<(), Fault> {
-        match self.next() {
-            Some(_) => Err(Fault::ManyWords),
-            None => Ok(()),
+    pub fn end(&mut self) -> Result<(), Fault>
+        ensures counted { self.new.asked ≡ min (self.old.asked + 1) (2 ^ 32 - 1) }
+        ensures ended { IsOk result ↔ All (λ byte. byte ≡ 32) self.old.rest.now }
+        ensures fault { IfErr result (λ fault. fault ≡ Fault.ManyWords) }
+    {
+        match self.take_word() {
+            Ok(_) => Err(Fault::ManyWords),
+            Err(_) => Ok(()),
         }
     }
 }
 
+// The first word of a line, and the line after it.
+fn first_word(line: &[u8]) -> Option<(&[u8], &[u8])>
+    ensures word { IfSome result (λ parts. (0 < length parts.0.now) × All (λ byte. byte ≢ 32) parts.0.now) }
+    ensures none { IsNone result ↔ All (λ byte. byte ≡ 32) line.now }
+{
+    let start = line.iter().position(|byte| *byte != b' ')?;
+    let begun = &line[start..];
+    Some(begun.split_at(find(begun, 0, begun.len(), b' ')))
+}
+
 // The number that digits alone make; one past 64 bits counts as the largest, since every limit lies far below it.
-pub fn number_of(text: &[u8]) -> Option<u64> {
-    if text.is_empty() {
+pub fn number_of(text: &[u8]) -> Option<u64>
+    ensures { IsSome result ↔ (0 < length text.now) × All (λ byte. (48 ≤ byte) × (byte ≤ 57)) text.now }
+{
+    if text.is_empty() || !text.iter().all(|byte| byte.is_ascii_digit()) {
         return None;
     }
-    text.iter().try_fold(0u64, |number, byte| {
-        let digit = char::from(*byte).to_digit(10)?;
-        Some(number.saturating_mul(10).saturating_add(u64::from(digit)))
-    })
+    Some(text.iter().fold(0, longer))
+}
+
+// A number with a digit more, whose value stands in its low four bits.
+fn longer(number: u64, digit: &u8) -> u64 {
+    number
+        .saturating_mul(10)
+        .saturating_add(u64::from(*digit % 16))
 }
