@@ -1,212 +1,140 @@
-// The calls by their names, and what each prints.
-ghost use Rattle.std.specs.Prelude.{◌≡◌, ◌≤◌, length};
+// The answer to a question: the number of refusal and the fields of the call that it asks for, and the lists after it.
 
-use asking::printing::{field, number};
-use asking::scan::find;
-use asking::widths::List;
-use asking::words::{Reader, failed};
-use asking::{widths, words};
+use crate::questions::{Encoding, Move, Question};
+use asking::crc;
+use asking::lists::List;
+use asking::printing::Joined;
 use qpp::{ArpForm, InverseForm, Reason, Start, Step, Value, Walker};
+use refusals::{Refusal, number};
+use std::io;
+use std::io::Write;
 use triples::Triple;
+use turbo::Row;
 
-// The bytes of a row: a name, filled up with spaces, and the kind of the call. It takes three numbers or four, 3 or 4; or
-// three and a list, whose letter stands here. Those of the encoder have kinds of their own.
-const ROW: usize = 18;
-
-const KIND: usize = 17;
-
-pub const LENGTH: u8 = b'1';
-
-pub const ENCODER: u8 = b'e';
-
-pub const ENCODER_CRC: u8 = b'c';
-
-// The row of a name, counted from 1.
-fn find_row(table: &[u8], name: &[u8], mut r: Reader) -> Reader
-    ensures { result.end ≡ r.end }
-{
-    let mut row = 0u32;
-    let mut at = 0;
-    while ROW <= table.len() - at {
-        row = row.wrapping_add(1);
-        let end = find(table, at, at + ROW, b' ');
-        if &table[at..end] == name {
-            r.n = row;
-            r.kind = table[at + KIND];
-            return r;
+impl Question {
+    // Makes the call.
+    pub fn answer<W: Write>(self, out: &mut W) -> io::Result<()> {
+        match self {
+            Question::Accept(t) => show(out, &[number(qpp::accept(t.k, t.f1, t.f2))]),
+            Question::Address(t, x) => show_value(out, qpp::address(t.k, t.f1, t.f2, x).into()),
+            Question::Reciprocal(t) => show_value(out, qpp::reciprocal(t.k, t.f1, t.f2).into()),
+            Question::Spread(t) => show_value(out, qpp::spread(t.k, t.f1, t.f2).into()),
+            Question::Inverse(t) => show_inverse(out, qpp::inverse(t.k, t.f1, t.f2).into()),
+            Question::Arp(t, list) => answer_arp(out, t, list),
+            Question::Addresses(t, list) => answer_addresses(out, t, list),
+            Question::WalkerStart(t) => show_start(out, qpp::walker_start(t.k, t.f1, t.f2).into()),
+            Question::WalkerStep(walker) => show_step(out, walker.step().into()),
+            Question::InterleaveU8(m) => answer_move(out, m, interleave),
+            Question::DeinterleaveU8(m) => answer_move(out, m, deinterleave),
+            Question::InterleaveI16(m) => answer_move(out, m, interleave),
+            Question::DeinterleaveI16(m) => answer_move(out, m, deinterleave),
+            Question::Explain(t) => show_reason(out, qpp::explain(t.k, t.f1, t.f2).into()),
+            Question::TurboRow(k) => show_row(out, turbo::row_of(k).into()),
+            Question::TurboEncode(e) => answer_encoding(out, e, show_list),
+            Question::TurboEncodeCrc(e) => answer_encoding(out, e, show_checksum),
         }
-        at += ROW;
-    }
-    failed(r, words::NO_CALL)
-}
-
-// The first word as a call.
-pub fn take_call(line: &[u8]) -> Reader
-    ensures { result.end ≤ length line.now }
-{
-    let r = words::next(line, words::begin());
-    let from = r.from;
-    let end = r.end;
-    find_row(
-        b"accept           3\
-          address          4\
-          reciprocal       3\
-          spread           3\
-          inverse          3\
-          arp              l\
-          addresses        l\
-          walker_start     3\
-          walker_step      4\
-          interleave_u8    b\
-          deinterleave_u8  b\
-          interleave_i16   s\
-          deinterleave_i16 s\
-          explain          3\
-          turbo_row        1\
-          turbo_encode     e\
-          turbo_encode_crc c",
-        &line[from..end],
-        r,
-    )
-}
-
-fn show_value<R: Print>(rt: &R, v: Value) {
-    number(rt, v.number);
-    field(rt, v.value)
-}
-
-fn show_inverse<R: Print>(rt: &R, inverse: InverseForm) {
-    number(rt, inverse.number);
-    field(rt, inverse.degree);
-    let a = inverse.a;
-    for i in 0..13 {
-        field(rt, a[i]);
     }
 }
 
-fn show_arp<R: Print>(rt: &R, form: ArpForm) {
-    number(rt, form.number);
-    field(rt, form.p);
-    field(rt, form.q)
+fn show<W: Write>(out: &mut W, fields: &[u32]) -> io::Result<()> {
+    write!(out, "{}", Joined(fields, " "))
 }
 
-fn show_walker<R: Print>(rt: &R, w: Walker) {
-    let t = w.triple;
-    field(rt, t.k);
-    field(rt, t.f1);
-    field(rt, t.f2);
-    field(rt, w.at)
+// A list after the fields, or after another list.
+fn show_list<W: Write, L: List>(out: &mut W, list: &L) -> io::Result<()> {
+    write!(out, " ")?;
+    list.show(out)
 }
 
-fn show_start<R: Print>(rt: &R, start: Start) {
-    number(rt, start.number);
-    show_walker(rt, start.walker)
+fn show_checksum<W: Write>(out: &mut W, list: &Vec<u8>) -> io::Result<()> {
+    write!(out, " {}", crc::of_list(list))
 }
 
-fn show_step<R: Print>(rt: &R, step: Step) {
-    number(rt, step.number);
-    field(rt, step.address);
-    show_walker(rt, step.walker)
+fn show_value<W: Write>(out: &mut W, v: Value) -> io::Result<()> {
+    show(out, &[v.number, v.value])
 }
 
-fn show_reason<R: Print>(rt: &R, reason: Reason) {
-    number(rt, reason.number);
-    field(rt, reason.y);
-    field(rt, reason.x);
-    field(rt, reason.address);
-    field(rt, reason.prime)
+fn show_inverse<W: Write>(out: &mut W, inverse: InverseForm) -> io::Result<()> {
+    let coefficients = Joined(&inverse.a, " ");
+    write!(out, "{} {} {coefficients}", inverse.number, inverse.degree)
 }
 
-fn moved<T: Copy>(t: Triple, back: bool, block: &mut [T], marks: &mut [u8]) -> u32 {
-    if back {
-        return qpp::deinterleave(t.k, t.f1, t.f2, block, marks);
+fn show_reason<W: Write>(out: &mut W, reason: Reason) -> io::Result<()> {
+    let Reason {
+        number,
+        y,
+        x,
+        address,
+        prime,
+    } = reason;
+    show(out, &[number, y, x, address, prime])
+}
+
+fn show_row<W: Write>(out: &mut W, row: Row) -> io::Result<()> {
+    show(out, &[row.number, row.f1, row.f2])
+}
+
+fn show_start<W: Write>(out: &mut W, start: Start) -> io::Result<()> {
+    let Walker { triple, at } = start.walker;
+    show(out, &[start.number, triple.k, triple.f1, triple.f2, at])
+}
+
+fn show_step<W: Write>(out: &mut W, step: Step) -> io::Result<()> {
+    let Walker { triple, at } = step.walker;
+    let Triple { k, f1, f2 } = triple;
+    show(out, &[step.number, step.address, k, f1, f2, at])
+}
+
+fn answer_arp<W: Write>(out: &mut W, t: Triple, mut list: Vec<u16>) -> io::Result<()> {
+    let form = ArpForm::from(qpp::arp(t.k, t.f1, t.f2, &mut list));
+    show(out, &[form.number, form.p, form.q])?;
+    show_list(out, &list)
+}
+
+fn answer_addresses<W: Write>(out: &mut W, t: Triple, mut list: Vec<u16>) -> io::Result<()> {
+    let answer = qpp::addresses(t.k, t.f1, t.f2, &mut list);
+    show(out, &[number(answer)])?;
+    show_list(out, &list)
+}
+
+fn interleave<T: Copy>(t: Triple, block: &mut [T], scratch: &mut [u8]) -> Result<(), Refusal> {
+    qpp::interleave(t.k, t.f1, t.f2, block, scratch)
+}
+
+fn deinterleave<T: Copy>(t: Triple, block: &mut [T], scratch: &mut [u8]) -> Result<(), Refusal> {
+    qpp::deinterleave(t.k, t.f1, t.f2, block, scratch)
+}
+
+fn answer_move<W, B, F>(out: &mut W, mut moved: Move<B>, mover: F) -> io::Result<()>
+where
+    W: Write,
+    B: List,
+    F: FnOnce(Triple, &mut [B::Entry], &mut [u8]) -> Result<(), Refusal>,
+    requires { F.IsAlwaysCallable mover }
+{
+    let answer = mover(moved.triple, moved.block.entries(), &mut moved.scratch);
+    show(out, &[number(answer)])?;
+    show_list(out, &moved.block)?;
+    show_list(out, &moved.scratch)
+}
+
+fn answer_encoding<W, F>(out: &mut W, asked: Encoding, show_stream: F) -> io::Result<()>
+where
+    W: Write,
+    F: Fn(&mut W, &Vec<u8>) -> io::Result<()>,
+    requires { F.IsAlwaysCallable show_stream }
+{
+    let Encoding {
+        k,
+        input,
+        mut d0,
+        mut d1,
+        mut d2,
+    } = asked;
+    let answer = turbo::encode(k, &input, &mut d0, &mut d1, &mut d2);
+    show(out, &[number(answer)])?;
+    for stream in [&d0, &d1, &d2] {
+        show_stream(out, stream)?;
     }
-    qpp::interleave(t.k, t.f1, t.f2, block, marks)
-}
-
-fn move_bytes(
-    t: Triple,
-    back: bool,
-    list: &mut List,
-    size: usize,
-    scratch: &mut List,
-    count: usize,
-) -> u32
-    requires { (size ≤ 8200) × (count ≤ 8200) }
-{
-    let mut block = [0u8; 8200];
-    let mut marks = [0u8; 8200];
-    widths::narrow(list, &mut block);
-    widths::narrow(scratch, &mut marks);
-    let number = moved(t, back, &mut block[0..size], &mut marks[0..count]);
-    widths::widen(&block, list);
-    widths::widen(&marks, scratch);
-    number
-}
-
-fn move_symbols(
-    t: Triple,
-    back: bool,
-    list: &mut List,
-    size: usize,
-    scratch: &mut List,
-    count: usize,
-) -> u32
-    requires { (size ≤ 8200) × (count ≤ 8200) }
-{
-    let mut block = [0i16; 8200];
-    let mut marks = [0u8; 8200];
-    widths::lower(list, &mut block);
-    widths::narrow(scratch, &mut marks);
-    let number = moved(t, back, &mut block[0..size], &mut marks[0..count]);
-    widths::raise(&block, list);
-    widths::widen(&marks, scratch);
-    number
-}
-
-fn list_shifts(t: Triple, list: &mut [u16], size: usize) -> ArpForm
-    requires { size ≤ length list.old }
-{
-    qpp::arp(t.k, t.f1, t.f2, &mut list[0..size])
-}
-
-fn list_addresses(t: Triple, list: &mut [u16], size: usize) -> u32
-    requires { size ≤ length list.old }
-{
-    qpp::addresses(t.k, t.f1, t.f2, &mut list[0..size])
-}
-
-// Makes the call of a row on its numbers, which a walker holds, and its lists, of these sizes; prints its number and its fields.
-pub fn make_call<R: Print>(
-    rt: &R,
-    row: u32,
-    w: Walker,
-    list: &mut List,
-    size: usize,
-    scratch: &mut List,
-    count: usize,
-)
-    requires { (size ≤ 8200) × (count ≤ 8200) }
-{
-    let t = w.triple;
-    let k = t.k;
-    let f1 = t.f1;
-    let f2 = t.f2;
-    match row {
-        1 => number(rt, qpp::accept(k, f1, f2)),
-        2 => show_value(rt, qpp::address(k, f1, f2, w.at)),
-        3 => show_value(rt, qpp::reciprocal(k, f1, f2)),
-        4 => show_value(rt, qpp::spread(k, f1, f2)),
-        5 => show_inverse(rt, qpp::inverse(k, f1, f2)),
-        6 => show_arp(rt, list_shifts(t, list, size)),
-        7 => number(rt, list_addresses(t, list, size)),
-        8 => show_start(rt, qpp::walker_start(k, f1, f2)),
-        9 => show_step(rt, w.step()),
-        10 => number(rt, move_bytes(t, false, list, size, scratch, count)),
-        11 => number(rt, move_bytes(t, true, list, size, scratch, count)),
-        12 => number(rt, move_symbols(t, false, list, size, scratch, count)),
-        13 => number(rt, move_symbols(t, true, list, size, scratch, count)),
-        14 => show_reason(rt, qpp::explain(k, f1, f2)),
-        _ => {}
-    }
+    Ok(())
 }

@@ -2,116 +2,138 @@
 #![tactic(auto)]
 
 mod calls;
-mod encoding;
 mod questions;
 
+use asking::lists::Trouble;
 use asking::printing;
 use asking::printing::Written;
-use std::io::Read;
+use asking::words::Words;
+use questions::Question;
+use std::alloc::Global;
+use std::io;
+use std::io::{BufRead, BufReader, ErrorKind, Read, Write};
 use std::process::ExitCode;
+use thiserror::Error;
 
-// How many bytes are kept of the line that has not ended, and how the last answer was written.
-#[derive(Clone, Copy)]
-struct Progress {
-    size: usize,
-    last: Written,
+// The longest line that is answered.
+const LONGEST: usize = 65535;
+
+// What ends a run before the input does.
+#[derive(Clone, Copy, Debug, Error)]
+enum Failure {
+    #[error("standard input cannot be read")]
+    Unread,
+    #[error("standard output cannot be written")]
+    Unwritten(Written),
+    #[error("out of memory")]
+    Memory,
 }
 
-// A line that fills its buffer is too long: there may be more of it than was kept. Whether an answer was written is seen at its
-// newline.
-fn answer<R: Print>(rt: &R, line: &[u8], size: usize) -> Written {
-    if size >= line.len() {
-        return Written::of(rt.write_all(b"? a line of more than 65535 bytes\n"));
+// Reads the next line into an empty buffer, without its newline, and answers whether there was one. Of a line that is too long one byte
+// more is kept than may be answered. A last line without its newline is a line like any other.
+fn read_line<R: BufRead>(input: &mut R, line: &mut Vec<u8>) -> io::Result<bool> {
+    let most = LONGEST as u64 + 1;
+    let count = input.by_ref().take(most).read_until(b'\n', line)?;
+    if line.last() == Some(&b'\n') {
+        line.pop();
+    } else if line.len() > LONGEST {
+        input.skip_until(b'\n')?;
     }
-    questions::answer(rt, &line[0..size]);
-    Written::of(rt.write_all(b"\n"))
+    Ok(count > 0)
 }
 
-fn take_byte<R: Print>(rt: &R, next: u8, line: &mut [u8], size: usize) -> Progress {
-    if next == b'\n' {
-        let last = answer(rt, line, size);
-        return Progress { size: 0, last };
-    }
-    let last = Written::Whole;
-    if size >= line.len() {
-        return Progress { size, last };
-    }
-    line[size] = next;
-    Progress {
-        size: size + 1,
-        last,
-    }
-}
-
-// Takes a whole piece of the input, or as much of it as is answered.
-fn take<R: Print>(rt: &R, piece: &[u8], line: &mut [u8], unended: usize) -> Progress {
-    let mut size = unended;
-    for i in 0..piece.len() {
-        let taken = take_byte(rt, piece[i], line, size);
-        if !taken.last.is_whole() {
-            return taken;
-        }
-        size = taken.size;
-    }
-    Progress {
-        size,
-        last: Written::Whole,
+// Only memory can fail on the way from the input to the line, but for the input itself.
+fn unread(error: io::Error) -> Failure {
+    match error.kind() {
+        ErrorKind::OutOfMemory => Failure::Memory,
+        _ => Failure::Unread,
     }
 }
 
-// Whoever calls the program learns of a failure from standard error alone.
-fn tell<R: Eprint>(rt: &R, last: Written) {
-    if let Written::Failed = last {
-        let _ = rt.eprintln("ask: standard output cannot be written");
+// The answer to a line, with its newline.
+fn answer(alloc: Global, line: &[u8]) -> io::Result<Vec<u8>> {
+    let mut out = Vec::new(alloc);
+    if line.len() > LONGEST {
+        writeln!(out, "? a line of more than {LONGEST} bytes")?;
+        return Ok(out);
     }
-}
-
-// Nobody knows the rest of a line that was cut off, so it gets no answer.
-fn say_unread<R: Eprint>(rt: &R) -> Written {
-    let _ = rt.eprintln("ask: standard input cannot be read");
-    Written::Whole
-}
-
-// A last line without its newline is answered like any other.
-fn finish<R: Print + Eprint>(rt: &R, line: &mut [u8], size: usize) -> Written {
-    if size == 0 {
-        return Written::Whole;
+    let mut words = Words::of(line);
+    match Question::read(alloc, &mut words) {
+        Ok(question) => question.answer(&mut out)?,
+        Err(Trouble::Word(fault)) => write!(out, "? word {}: {fault}", words.asked)?,
+        Err(Trouble::Memory(error)) => return Err(error.into()),
     }
-    let last = take(rt, b"\n", line, size).last;
-    tell(rt, last);
-    last
+    writeln!(out)?;
+    Ok(out)
 }
 
-// A proved loop has to end, and nothing says that the input does. So the loop counts its turns down, from a
-// number that no run uses up.
-fn run<R: Print + Eprint, I: Read>(
+// Answers one line, or at the end of the input none.
+fn answer_next<R: Print, I: BufRead>(
     rt: &R,
+    alloc: Global,
     input: &mut I,
-    piece: &mut [u8],
-    line: &mut [u8],
-) -> Written {
-    let mut size = 0;
-    let mut turns = u64::MAX;
-    while turns > 0 {
-        let Ok(count) = input.read(piece) else {
-            return say_unread(rt);
-        };
-        if count == 0 {
-            return finish(rt, line, size);
-        }
-        let progress = take(rt, &piece[..count], line, size);
-        if !progress.last.is_whole() {
-            tell(rt, progress.last);
-            return progress.last;
-        }
-        size = progress.size;
-        turns -= 1;
+) -> Result<bool, Failure> {
+    let mut line = Vec::new(alloc);
+    if !read_line(input, &mut line).map_err(unread)? {
+        return Ok(false);
     }
-    say_unread(rt)
+    // An answer is made in memory, so nothing else can fail there.
+    let answer = answer(alloc, &line).map_err(|_| Failure::Memory)?;
+    match Written::of(rt.write_all(&answer)) {
+        Written::Whole => Ok(true),
+        last => Err(Failure::Unwritten(last)),
+    }
+}
+
+// A proved loop has to end, and nothing says that the input does. So the loop counts its turns, up to a number that no run uses up.
+fn run<R: Print, I: Read + Drop>(rt: &R, alloc: Global, input: I) -> Result<(), Failure> {
+    let mut input = BufReader::with_capacity(alloc, 65536, input).map_err(unread)?;
+    for _ in 0..u64::MAX {
+        if !answer_next(rt, alloc, &mut input)? {
+            return Ok(());
+        }
+    }
+    Err(Failure::Unread)
+}
+
+// How the writing ended. Whoever calls the program learns of a failure from standard error alone, and of a closed pipe not at all.
+fn tell<R: Eprint>(rt: &R, outcome: Result<(), Failure>) -> Written {
+    match outcome {
+        Ok(()) => Written::Whole,
+        Err(Failure::Unwritten(Written::Closed)) => Written::Closed,
+        Err(failure) => {
+            let _ = eprintln!(rt; "ask: {failure}");
+            Written::Failed
+        }
+    }
 }
 
 fn main(rt: HostRuntime) -> ExitCode {
-    let mut piece = [0u8; 65536];
-    let mut line = [0u8; 65536];
-    printing::status(run(&rt, &mut rt.stdin(), &mut piece, &mut line))
+    printing::status(tell(&rt, run(&rt, rt.alloc(), rt.stdin())))
+}
+
+#[cfg(test)]
+mod tests {
+    use super::*;
+    use std::test::Fail;
+
+    #[test]
+    fn answers_lines(rt: HostRuntime) -> Result<(), Fail> {
+        let lines = [
+            ("address 9 1 3 4294967295", "0 3\n"),
+            ("interleave_u8 9 1 3 ABCDEFGHI 255*2", "0 AEFDHIGBC 0,0\n"),
+            (
+                "interleave_i16 4 1 2 -5,7,32767,-32768 0*1",
+                "0 -5,-32768,32767,7 0\n",
+            ),
+            ("addresses 4 1 2 65535*6", "0 0,3,2,1,65535,65535\n"),
+            ("turbo_row 41", "9 0 0\n"),
+            ("accept 40 3", "? word 4: too few words\n"),
+        ];
+        for (line, want) in lines {
+            let answered = answer(rt.alloc(), line.as_bytes())?;
+            assert_eq!(rt; answered.as_slice(), want.as_bytes(), "at {line}");
+        }
+        Ok(())
+    }
 }

@@ -1,117 +1,116 @@
-// What a line asks, and the answer to it.
-ghost use Rattle.std.specs.Prelude.{◌≤◌, length};
+// What a line asks: a call with its arguments, and no word after them.
 
-use crate::{calls, encoding};
-use asking::lists::{show, take_list, take_scratch};
-use asking::printing::{number, say};
-use asking::widths::List;
-use asking::words;
-use asking::words::{Reader, failed, take_number};
+use asking::lists::{Bytes, List, Trouble, take_list};
+use asking::words::{Fault, Words};
 use qpp::Walker;
+use std::alloc::Global;
 use triples::Triple;
 
-fn take_position(line: &[u8], r: Reader) -> Reader
-    requires { r.end ≤ length line.now }
-    ensures { result.end ≤ length line.now }
-{
-    if r.kind == b'4' {
-        return take_number(line, r);
-    }
-    r
+#[derive(Drop)]
+pub enum Question {
+    Accept(Triple),
+    Address(Triple, u32),
+    Reciprocal(Triple),
+    Spread(Triple),
+    Inverse(Triple),
+    Arp(Triple, Vec<u16>),
+    Addresses(Triple, Vec<u16>),
+    WalkerStart(Triple),
+    WalkerStep(Walker),
+    InterleaveU8(Move<Bytes>),
+    DeinterleaveU8(Move<Bytes>),
+    InterleaveI16(Move<Vec<i16>>),
+    DeinterleaveI16(Move<Vec<i16>>),
+    Explain(Triple),
+    TurboRow(u32),
+    TurboEncode(Encoding),
+    TurboEncodeCrc(Encoding),
 }
 
-// No word may be left.
-pub fn ended(line: &[u8], r: Reader) -> Reader
-    requires { (r.end ≤ length line.now) × (r.n ≤ 8200) }
-    ensures { result.n ≤ 8200 }
-{
-    let rest = words::next(line, r);
-    if rest.from < rest.end {
-        return failed(rest, words::MANY_WORDS);
-    }
-    r
+// A block to be moved by a triple, and the scratch for that.
+#[derive(Drop)]
+pub struct Move<B> {
+    pub triple: Triple,
+    pub block: B,
+    pub scratch: Vec<u8>,
 }
 
-// A call by its row, its numbers, its list, and its scratch as the last word.
-#[derive(Clone, Copy)]
-struct Question {
-    row: u32,
-    w: Walker,
-    list: Reader,
-    last: Reader,
+// A block of k bits to be encoded, and the lists that its three streams go into.
+#[derive(Drop)]
+pub struct Encoding {
+    pub k: u32,
+    pub input: Vec<u8>,
+    pub d0: Vec<u8>,
+    pub d1: Vec<u8>,
+    pub d2: Vec<u8>,
 }
 
-fn read_question(line: &[u8], call: Reader, list: &mut List, scratch: &mut List) -> Question
-    requires { call.end ≤ length line.now }
-    ensures { (result.list.n ≤ 8200) × (result.last.n ≤ 8200) }
-{
-    let k = take_number(line, call);
-    let f1 = take_number(line, k);
-    let f2 = take_number(line, f1);
-    let x = take_position(line, f2);
-    let listed = take_list(line, x, list);
-    let last = ended(line, take_scratch(line, listed, scratch));
-    let triple = Triple {
-        k: k.n,
-        f1: f1.n,
-        f2: f2.n,
-    };
-    let w = Walker { triple, at: x.n };
-    Question {
-        row: call.n,
-        w,
-        list: listed,
-        last,
+impl Question {
+    pub fn read(alloc: Global, words: &mut Words<'_>) -> Result<Question, Trouble> {
+        let question = take_call(alloc, words)?;
+        words.end()?;
+        Ok(question)
     }
 }
 
-pub fn complain<R: Print>(rt: &R, r: Reader) {
-    say(rt, b"? word ");
-    number(rt, r.word as u32);
-    let fault = r.fault;
-    match fault {
-        words::NO_CALL => say(rt, b": no such call"),
-        words::NO_NUMBER => say(rt, b": no number"),
-        words::LARGE_NUMBER => say(rt, b": a number above 4294967295"),
-        words::NO_LIST => say(rt, b": no list"),
-        words::OUT_OF_RANGE => say(rt, b": an entry out of range"),
-        words::LONG_LIST => say(rt, b": a list of more than 8200 entries"),
-        words::FEW_WORDS => say(rt, b": too few words"),
-        _ => say(rt, b": too many words"),
-    }
+fn take_call(alloc: Global, words: &mut Words<'_>) -> Result<Question, Trouble> {
+    Ok(match words.take_word()? {
+        b"accept" => Question::Accept(take_triple(words)?),
+        b"address" => Question::Address(take_triple(words)?, words.take_number()?),
+        b"reciprocal" => Question::Reciprocal(take_triple(words)?),
+        b"spread" => Question::Spread(take_triple(words)?),
+        b"inverse" => Question::Inverse(take_triple(words)?),
+        b"arp" => Question::Arp(take_triple(words)?, take_list(alloc, words)?),
+        b"addresses" => Question::Addresses(take_triple(words)?, take_list(alloc, words)?),
+        b"walker_start" => Question::WalkerStart(take_triple(words)?),
+        b"walker_step" => Question::WalkerStep(take_walker(words)?),
+        b"interleave_u8" => Question::InterleaveU8(take_move(alloc, words)?),
+        b"deinterleave_u8" => Question::DeinterleaveU8(take_move(alloc, words)?),
+        b"interleave_i16" => Question::InterleaveI16(take_move(alloc, words)?),
+        b"deinterleave_i16" => Question::DeinterleaveI16(take_move(alloc, words)?),
+        b"explain" => Question::Explain(take_triple(words)?),
+        b"turbo_row" => Question::TurboRow(words.take_number()?),
+        b"turbo_encode" => Question::TurboEncode(take_encoding(alloc, words)?),
+        b"turbo_encode_crc" => Question::TurboEncodeCrc(take_encoding(alloc, words)?),
+        _ => return Err(Trouble::Word(Fault::NoCall)),
+    })
 }
 
-// Makes the call, and shows the lists after it.
-fn reply<R: Print>(rt: &R, q: Question, list: &mut List, scratch: &mut List)
-    requires { (q.list.n ≤ 8200) × (q.last.n ≤ 8200) }
-{
-    let size = q.list.n as usize;
-    let count = q.last.n as usize;
-    calls::make_call(rt, q.row, q.w, list, size, scratch, count);
-    show(rt, q.list.kind, list, size);
-    show(rt, q.last.kind, scratch, count)
+fn take_triple(words: &mut Words<'_>) -> Result<Triple, Fault> {
+    Ok(Triple {
+        k: words.take_number()?,
+        f1: words.take_number()?,
+        f2: words.take_number()?,
+    })
 }
 
-// A call of the interleaver.
-fn answer_shuffle<R: Print>(rt: &R, line: &[u8], call: Reader)
-    requires { call.end ≤ length line.now }
-{
-    let mut list = [0u16; 8200];
-    let mut scratch = [0u16; 8200];
-    let q = read_question(line, call, &mut list, &mut scratch);
-    if q.last.fault != words::FINE {
-        return complain(rt, q.last);
-    }
-    reply(rt, q, &mut list, &mut scratch)
+fn take_walker(words: &mut Words<'_>) -> Result<Walker, Fault> {
+    Ok(Walker {
+        triple: take_triple(words)?,
+        at: words.take_number()?,
+    })
 }
 
-// Answers a line that comes without its newline.
-pub fn answer<R: Print>(rt: &R, line: &[u8]) {
-    let call = calls::take_call(line);
-    let kind = call.kind;
-    match kind {
-        calls::LENGTH => encoding::answer_row(rt, line, call),
-        calls::ENCODER | calls::ENCODER_CRC => encoding::answer(rt, line, call),
-        _ => answer_shuffle(rt, line, call),
-    }
+// A list of bytes that is shown in numbers, also where it came as a text.
+fn take_bytes(alloc: Global, words: &mut Words<'_>) -> Result<Vec<u8>, Trouble> {
+    let bytes: Bytes = take_list(alloc, words)?;
+    Ok(bytes.into_vec())
+}
+
+fn take_move<B: List>(alloc: Global, words: &mut Words<'_>) -> Result<Move<B>, Trouble> {
+    Ok(Move {
+        triple: take_triple(words)?,
+        block: take_list(alloc, words)?,
+        scratch: take_bytes(alloc, words)?,
+    })
+}
+
+fn take_encoding(alloc: Global, words: &mut Words<'_>) -> Result<Encoding, Trouble> {
+    Ok(Encoding {
+        k: words.take_number()?,
+        input: take_bytes(alloc, words)?,
+        d0: take_bytes(alloc, words)?,
+        d1: take_bytes(alloc, words)?,
+        d2: take_bytes(alloc, words)?,
+    })
 }

@@ -5,5 +5,4 @@ pub mod crc;
 pub mod lists;
 pub mod printing;
 pub mod scan;
-pub mod widths;
 pub mod words;

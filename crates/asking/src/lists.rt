@@ -1,249 +1,205 @@
-// The lists of a line, and what a call left in them.
-ghost use Rattle.std.specs.Prelude.{◌≡◌, ◌+◌, ◌<◌, ◌≤◌, length};
+// The lists of a line.
+ghost use Rattle.std.specs.Prelude.{◌≡◌, ℕ, ◌≤◌, IfOk, OnOk, vec_len};
 
-use crate::printing::{number, say};
+use crate::printing::Joined;
 use crate::scan::find;
-use crate::widths::{LONGEST, List};
-use crate::words::{Reader, failed, value_of};
-use crate::{widths, words};
+use crate::words::{Fault, Words, number_of};
+use std::alloc::{AllocError, Global};
+use std::fmt::Display;
+use std::io;
+use std::io::Write;
+use std::num::TryFromIntError;
+use thiserror::Error;
 
-// What a list holds, by a letter: 16-bit entries, bytes, bytes that came as a text, or 16-bit symbols with a sign.
-const ENTRIES: u8 = b'l';
+// The longest list: as long as the longest block, and a little more.
+const LONGEST: u64 = 8200;
 
-const BYTES: u8 = b'b';
-
-const TEXT: u8 = b't';
-
-const SYMBOLS: u8 = b's';
-
-// A letter tells of a list; a call without one has a digit.
-pub fn is_letter(byte: u8) -> bool {
-    match byte {
-        b'a'..=b'z' | b'A'..=b'Z' => true,
-        _ => false,
-    }
+// Why a word is not taken as a list: it is none, or there is no room for it.
+#[derive(Debug, Drop, Error)]
+pub enum Trouble {
+    #[error(transparent)]
+    Word(#[from] Fault),
+    #[error(transparent)]
+    Memory(#[from(alloc)] AllocError),
 }
 
-// An entry is kept as its place: how far it lies above the least of its width. The least is this far below 0.
-fn depth(kind: u8) -> u64
-    ensures { result ≤ 32768 }
-{
-    if kind == SYMBOLS { 32768 } else { 0 }
-}
-
-fn height(kind: u8) -> u64
-    ensures { result ≤ 65535 }
-{
-    match kind {
-        SYMBOLS => 32767,
-        ENTRIES => 65535,
-        _ => 255,
+// The number of an entry, which may have a sign. Past 64 bits it is the least or the largest, which no entry is.
+fn signed(text: &[u8]) -> Option<i64> {
+    match text.strip_prefix(b"-".as_slice()) {
+        Some(digits) => number_of(digits).map(|size| 0i64.saturating_sub_unsigned(size)),
+        None => number_of(text).map(|size| 0i64.saturating_add_unsigned(size)),
     }
-}
-
-// The place of no entry of the width.
-const OUT: u64 = u64::MAX - 1;
-
-// How many bytes the sign of a number takes.
-fn sign(text: &[u8]) -> usize
-    ensures { result ≤ length text.now }
-{
-    if text.len() == 0 {
-        return 0;
-    }
-    if text[0] == b'-' { 1 } else { 0 }
-}
-
-fn place_of(kind: u8, text: &[u8]) -> u64 {
-    let sign = sign(text);
-    let size = value_of(&text[sign..]);
-    let depth = depth(kind);
-    if size == words::NONE {
-        return words::NONE;
-    }
-    if sign == 1 {
-        if size > depth {
-            return OUT;
-        }
-        return depth - size;
-    }
-    if size > height(kind) {
-        return OUT;
-    }
-    depth + size
 }
 
 // How often an entry stands, by what follows it: a star and a number, or nothing.
-fn times_of(text: &[u8]) -> u64 {
-    if text.len() == 0 {
-        return 1;
-    }
-    value_of(&text[1..])
-}
-
-fn repeat(from: usize, to: usize, place: u16, list: &mut List)
-    requires { (from ≤ to) × (to ≤ 8200) }
-{
-    for i in from..to {
-        list[i] = place;
+fn times_of(text: &[u8]) -> Option<u64> {
+    match text.split_first() {
+        Some((_, digits)) => number_of(digits),
+        None => Some(1),
     }
 }
 
-// Stores an entry, with a star and its count or without, after those that are stored.
-fn take_entry(text: &[u8], mut r: Reader, list: &mut List) -> Reader
-    requires { r.n ≤ 8200 }
-    ensures { (result.end ≡ r.end) × (result.n ≤ 8200) }
-{
-    let star = find(text, 0, text.len(), b'*');
-    let place = place_of(r.kind, &text[0..star]);
-    let times = times_of(&text[star..]);
-    if place == words::NONE {
-        return failed(r, words::NO_LIST);
-    }
-    if times == words::NONE {
-        return failed(r, words::NO_LIST);
-    }
-    if place == OUT {
-        return failed(r, words::OUT_OF_RANGE);
-    }
-    if times > (8200 - r.n) as u64 {
-        return failed(r, words::LONG_LIST);
-    }
-    let size = r.n + times as u32;
-    repeat(r.n as usize, size as usize, (place % 65536) as u16, list);
-    r.n = size;
-    r
+// The entries of a list, never more than the longest has.
+#[derive(Drop)]
+struct Entries<T> {
+    items: Vec<T>,
+    ghost short: { vec_len items ≤ 8200 },
 }
 
-// Stores the entries of a word. Once one is wrong the rest does not matter: the first fault stays.
-fn fill(word: &[u8], r: Reader, list: &mut List) -> Reader
-    ensures { (result.end ≡ r.end) × (result.n ≤ 8200) }
-{
-    let mut filled = r;
-    filled.n = 0;
-    let mut at = 0;
-    while at <= word.len() {
-        let end = find(word, at, word.len(), b',');
-        filled = take_entry(&word[at..end], filled, list);
-        at = end + 1;
+impl<T: Copy + TryFrom<i64, Error = TryFromIntError>> Entries<T> {
+    // Adds an entry, with a star and its count or without.
+    fn add(&mut self, text: &[u8]) -> Result<(), Trouble> {
+        let (number, star) = text.split_at(find(text, 0, text.len(), b'*'));
+        let number = signed(number).ok_or(Fault::NoList)?;
+        let times = times_of(star).ok_or(Fault::NoList)?;
+        let entry = T::try_from(number).map_err(|_| Fault::OutOfRange)?;
+        let size = times.saturating_add(self.items.len() as u64);
+        if size > LONGEST {
+            return Err(Trouble::Word(Fault::LongList));
+        }
+        self.items.resize(size as usize, entry)?;
+        Ok(())
     }
-    filled
+
+    // Numbers with commas between them. A dash is the empty list.
+    fn add_all(&mut self, word: &[u8]) -> Result<(), Trouble> {
+        if word == b"-".as_slice() {
+            return Ok(());
+        }
+        for text in word.split(|byte| *byte == b',') {
+            self.add(text)?;
+        }
+        Ok(())
+    }
+
+    fn read(alloc: Global, word: &[u8]) -> Result<Vec<T>, Trouble>
+        ensures { IfOk result (λ list. vec_len list ≤ 8200) }
+    {
+        let mut list = Entries {
+            items: Vec::new(alloc),
+        };
+        list.add_all(word)?;
+        Ok(list.items)
+    }
 }
 
-fn copy(word: &[u8], mut r: Reader, list: &mut List) -> Reader
-    ensures { (result.end ≡ r.end) × (result.n ≤ 8200) }
-{
-    if word.len() > LONGEST {
-        return failed(r, words::LONG_LIST);
-    }
-    for i in 0..word.len() {
-        list[i] = widths::wide(word[i]);
-    }
-    r.n = word.len() as u32;
-    r
+// A list as one word has it.
+pub trait List: Drop {
+    type Entry;
+
+    ghost count: { Self → ℕ };
+
+    fn read(alloc: Global, word: &[u8]) -> Result<Self, Trouble>
+        ensures { IfOk result (λ list. count list ≤ 8200) };
+
+    fn entries(&mut self) -> &mut [Self::Entry];
+
+    // Written as it is read.
+    fn show<W: Write>(&self, out: &mut W) -> io::Result<()>;
 }
 
-// Reads a word as a list: a dash is the empty one, and where bytes are asked for a word that begins with a letter is a text.
-fn read(word: &[u8], mut r: Reader, list: &mut List) -> Reader
-    ensures { (result.end ≡ r.end) × (result.n ≤ 8200) }
+// The next word as a list.
+pub fn take_list<L: List>(alloc: Global, words: &mut Words<'_>) -> Result<L, Trouble>
+    ensures { IfOk result (λ list. L.count list ≤ 8200) }
 {
-    if word == b"-".as_slice() {
-        r.n = 0;
-        return r;
+    L::read(alloc, words.take_word()?)
+}
+
+impl<T: Copy + Display + TryFrom<i64, Error = TryFromIntError>> List for Vec<T> {
+    type Entry = T;
+
+    ghost count = { λ list. vec_len list };
+
+    fn read(alloc: Global, word: &[u8]) -> Result<Self, Trouble> {
+        Entries::read(alloc, word)
     }
-    if word.len() > 0 {
-        if r.kind == BYTES {
-            if is_letter(word[0]) {
-                r.kind = TEXT;
-                return copy(word, r, list);
-            }
+
+    fn entries(&mut self) -> &mut [T] {
+        self
+    }
+
+    fn show<W: Write>(&self, out: &mut W) -> io::Result<()> {
+        if self.is_empty() {
+            return write!(out, "-");
+        }
+        write!(out, "{}", Joined(self, ","))
+    }
+}
+
+// Bytes that came in numbers, or as a text, which is written as one again.
+#[derive(Drop)]
+pub enum Bytes {
+    Numbers(Vec<u8>),
+    Text(Vec<u8>),
+}
+
+impl Bytes {
+    ghost use Rattle.asking.specs.Bytes.{size_of};
+
+    pub fn into_vec(self) -> Vec<u8>
+        ensures { vec_len result ≡ size_of self }
+    {
+        match self {
+            Bytes::Numbers(bytes) | Bytes::Text(bytes) => bytes,
         }
     }
-    fill(word, r, list)
 }
 
-// The next word as a list, where the kind is a letter.
-pub fn take_list(line: &[u8], mut r: Reader, list: &mut List) -> Reader
-    requires { r.end ≤ length line.now }
-    ensures { (result.end ≤ length line.now) × (result.n ≤ 8200) }
-{
-    if !is_letter(r.kind) {
-        r.n = 0;
-        return r;
+impl List for Bytes {
+    ghost use Rattle.asking.specs.Bytes.{size_of};
+
+    type Entry = u8;
+
+    ghost count = { λ bytes. size_of bytes };
+
+    // A word that begins with a letter is a text.
+    fn read(alloc: Global, word: &[u8]) -> Result<Self, Trouble> {
+        if !word.first().is_some_and(u8::is_ascii_alphabetic) {
+            return Ok(Bytes::Numbers(Entries::read(alloc, word)?));
+        }
+        if word.len() as u64 > LONGEST {
+            return Err(Trouble::Word(Fault::LongList));
+        }
+        Ok(Bytes::Text(Vec::from_slice(alloc, word)?))
     }
-    let taken = words::next(line, r);
-    let from = taken.from;
-    let end = taken.end;
-    read(&line[from..end], taken, list)
-}
 
-// After a block comes a scratch, which is a list of bytes.
-fn scratch_kind(kind: u8) -> u8 {
-    match kind {
-        BYTES | TEXT | SYMBOLS => BYTES,
-        _ => 0,
+    fn entries(&mut self) -> &mut [u8] {
+        match self {
+            Bytes::Numbers(bytes) | Bytes::Text(bytes) => bytes,
+        }
     }
-}
 
-pub fn take_scratch(line: &[u8], mut r: Reader, list: &mut List) -> Reader
-    requires { r.end ≤ length line.now }
-    ensures { (result.end ≤ length line.now) × (result.n ≤ 8200) }
-{
-    let kind = scratch_kind(r.kind);
-    r.kind = kind;
-    let mut taken = take_list(line, r, list);
-    // It is shown in numbers, also if it came as a text, since the call leaves zeros there.
-    taken.kind = kind;
-    taken
-}
-
-fn write_entry<R: Print>(rt: &R, kind: u8, place: u16) {
-    let depth = depth(kind) as u32;
-    let n = place as u32;
-    if n < depth {
-        say(rt, b"-");
-        return number(rt, depth - n);
-    }
-    number(rt, n - depth)
-}
-
-// An entry, with a comma before any but the first.
-fn show_entry<R: Print>(rt: &R, kind: u8, i: usize, place: u16) {
-    if i > 0 {
-        say(rt, b",");
-    }
-    write_entry(rt, kind, place)
-}
-
-fn show_entries<R: Print>(rt: &R, kind: u8, list: &List, size: usize)
-    requires { size ≤ 8200 }
-{
-    for i in 0..size {
-        show_entry(rt, kind, i, list[i]);
+    fn show<W: Write>(&self, out: &mut W) -> io::Result<()> {
+        match self {
+            Bytes::Numbers(bytes) => bytes.show(out),
+            Bytes::Text(bytes) => out.write_all(bytes),
+        }
     }
 }
 
-fn show_text<R: Print>(rt: &R, list: &List, size: usize)
-    requires { size ≤ 8200 }
-{
-    let mut text = [0u8; 8200];
-    widths::narrow(list, &mut text);
-    say(rt, &text[0..size]);
-}
+#[cfg(test)]
+mod tests {
+    use super::*;
+    use std::test::Fail;
 
-// A space and a list of this size, where the kind is a letter.
-pub fn show<R: Print>(rt: &R, kind: u8, list: &List, size: usize)
-    requires { size ≤ 8200 }
-{
-    if !is_letter(kind) {
-        return;
+    fn shown<L: List>(alloc: Global, word: &[u8]) -> Result<Vec<u8>, Fail> {
+        let list: L = take_list(alloc, &mut Words::of(word))?;
+        let mut out = Vec::new(alloc);
+        list.show(&mut out)?;
+        Ok(out)
     }
-    say(rt, b" ");
-    if size == 0 {
-        return say(rt, b"-");
+
+    #[test]
+    fn shows_what_it_read(rt: HostRuntime) -> Result<(), Fail> {
+        let alloc = rt.alloc();
+        let none = shown::<Vec<u16>>(alloc, b"-")?;
+        assert_eq!(rt; none.as_slice(), b"-".as_slice());
+        let symbols = shown::<Vec<i16>>(alloc, b"-32768,7*2,0*0")?;
+        assert_eq!(rt; symbols.as_slice(), b"-32768,7,7".as_slice());
+        let bytes = shown::<Bytes>(alloc, b"255*3")?;
+        assert_eq!(rt; bytes.as_slice(), b"255,255,255".as_slice());
+        let text = shown::<Bytes>(alloc, b"A*2,-")?;
+        assert_eq!(rt; text.as_slice(), b"A*2,-".as_slice());
+        Ok(())
     }
-    if kind == TEXT {
-        return show_text(rt, list, size);
-    }
-    show_entries(rt, kind, list, size)
 }

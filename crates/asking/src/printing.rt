@@ -1,14 +1,33 @@
-// Words and numbers on standard output. Whether it takes them is seen at the end of each line, by the program.
+// How answers are written: numbers in a row, how a write went, and the status of a program after it.
 ghost use Rattle.std.specs.Prelude.{◌≡◌, ◌≢◌, ◌↔◌, IsOk, IfErr, IsTrue};
 ghost use Rattle.std.specs.IoError.{error_kind};
 ghost use Rattle.std.specs.Process.{exit_status};
 
-use std::io;
+use std::fmt::Display;
 use std::io::ErrorKind;
 use std::process::ExitCode;
+use std::{fmt, io};
+
+// Items one after the other, and what stands between them.
+#[derive(Clone, Copy)]
+pub struct Joined<'a, T>(pub &'a [T], pub &'static str);
+
+impl<'a, T: Display> Display for Joined<'a, T> {
+    fn fmt<W: fmt::Write>(&self, f: &mut fmt::Formatter<W>) -> fmt::Result {
+        let Joined(items, between) = self;
+        let Some((first, others)) = items.split_first() else {
+            return Ok(());
+        };
+        write!(f, "{first}")?;
+        for item in others {
+            write!(f, "{between}{item}")?;
+        }
+        Ok(())
+    }
+}
 
 // How a write went. A pipe that is closed is no failure: whoever reads it has had enough.
-#[derive(Clone, Copy)]
+#[derive(Clone, Copy, Debug, PartialEq, Eq)]
 pub enum Written {
     Whole,
     Closed,
@@ -16,6 +35,7 @@ pub enum Written {
 }
 
 impl Written {
+    // No `From`: what is promised of each answer would stand twice, here and in the ghost member of the `impl`.
     pub fn of(call: io::Result<()>) -> Written
         ensures whole { IsOk call → result ≡ Written.Whole }
         ensures closed { IfErr call (λ e. error_kind e ≡ ErrorKind.BrokenPipe → result ≡ Written.Closed) }
@@ -33,10 +53,7 @@ impl Written {
     pub fn is_whole(self) -> bool
         ensures { IsTrue result ↔ (self ≡ Written.Whole) }
     {
-        match self {
-            Written::Whole => true,
-            _ => false,
-        }
+        self == Written::Whole
     }
 }
 
@@ -49,18 +66,4 @@ pub fn status(last: Written) -> ExitCode
         Written::Closed => ExitCode::from(141),
         _ => ExitCode::SUCCESS,
     }
-}
-
-pub fn say<R: Print>(rt: &R, text: &[u8]) {
-    let _ = rt.write_all(text);
-}
-
-pub fn number<R: Print>(rt: &R, n: u32) {
-    let _ = rt.print(n);
-}
-
-// A space and a number.
-pub fn field<R: Print>(rt: &R, n: u32) {
-    say(rt, b" ");
-    number(rt, n);
 }

@@ -1,5 +1,13 @@
 // A byte of a text.
-ghost use Rattle.std.specs.Prelude.{◌≡◌, ◌≢◌, ℕ, ◌≤◌, ◌<◌, length, slice_index};
+ghost use Rattle.std.specs.Prelude.{◌≡◌, ◌≢◌, ℕ, ◌≤◌, ◌<◌, length, slice_index, EachIndex, MatchOption};
+
+fn first(text: &[u8], byte: u8) -> Option<usize>
+    ensures { MatchOption result
+        (EachIndex text.now (λ k. slice_index text.now k ≢ byte))
+        (λ at. (at < length text.now) × (slice_index text.now at ≡ byte) × ((k : ℕ) → k < at → slice_index text.now k ≢ byte)) }
+{
+    text.iter().position(|b| *b == byte)
+}
 
 // Where the byte stands first from `from` on and before `to`, or else `to`.
 pub fn find(text: &[u8], from: usize, to: usize, byte: u8) -> usize
@@ -8,10 +16,8 @@ pub fn find(text: &[u8], from: usize, to: usize, byte: u8) -> usize
     ensures passed { (j : ℕ) → from ≤ j → j < result → slice_index text.now j ≢ byte }
     ensures found { result < to → slice_index text.now result ≡ byte }
 {
-    for at in from..to {
-        if text[at] == byte {
-            return at;
-        }
+    match first(&text[from..to], byte) {
+        Some(at) => from + at,
+        None => to,
     }
-    to
 }

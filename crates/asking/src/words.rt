@@ -1,138 +1,106 @@
-// The words of a line, from left to right.
-ghost use Rattle.std.specs.Prelude.{◌≡◌, ◌≤◌, length};
+// The words of a line, from left to right, and what may be wrong with them.
+
+ghost use Rattle.std.specs.Prelude.{◌≡◌, ◌≢◌, ◌+◌, ◌-◌, ◌^◌, ◌≤◌, ◌<◌, ◌↔◌, All, IsSome, IsNone, IsOk, IfSome, IfOk, IsErr, IfErr, length, min};
 
 use crate::scan::find;
+use thiserror::Error;
 
 // What is wrong with a word.
-pub const FINE: u8 = 0;
+#[derive(Clone, Copy, Debug, PartialEq, Eq, Error)]
+pub enum Fault {
+    #[error("no such call")]
+    NoCall,
+    #[error("no number")]
+    NoNumber,
+    #[error("a number above 4294967295")]
+    LargeNumber,
+    #[error("no list")]
+    NoList,
+    #[error("an entry out of range")]
+    OutOfRange,
+    #[error("a list of more than 8200 entries")]
+    LongList,
+    #[error("too few words")]
+    FewWords,
+    #[error("too many words")]
+    ManyWords,
+}
 
-pub const NO_CALL: u8 = 1;
-
-pub const NO_NUMBER: u8 = 2;
-
-pub const LARGE_NUMBER: u8 = 3;
-
-pub const NO_LIST: u8 = 4;
-
-pub const OUT_OF_RANGE: u8 = 5;
-
-pub const LONG_LIST: u8 = 6;
-
-pub const FEW_WORDS: u8 = 7;
-
-pub const MANY_WORDS: u8 = 8;
-
-// Where the present word stands and the how manieth it is; what number it is, or how long a list; of what kind the call is, or
-// the list; and what was wrong first.
+// The line after the words that were asked for, and how many those are.
 #[derive(Clone, Copy)]
-pub struct Reader {
-    pub from: usize,
-    pub end: usize,
-    pub word: u8,
-    pub n: u32,
-    pub kind: u8,
-    pub fault: u8,
+pub struct Words<'a> {
+    pub rest: &'a [u8],
+    pub asked: u32,
 }
 
-pub fn begin() -> Reader
-    ensures { result.end ≡ 0 }
-{
-    Reader {
-        from: 0,
-        end: 0,
-        word: 0,
-        n: 0,
-        kind: 0,
-        fault: FINE,
-    }
-}
-
-// Notes a fault, unless there was one before.
-pub fn failed(mut r: Reader, fault: u8) -> Reader
-    ensures { (result.from ≡ r.from) × (result.end ≡ r.end) × (result.n ≡ 0) }
-{
-    r.n = 0;
-    if r.fault == FINE {
-        r.fault = fault;
-    }
-    r
-}
-
-fn past_spaces(line: &[u8], from: usize) -> usize
-    requires { from ≤ length line.now }
-    ensures { result ≤ length line.now }
-{
-    let mut at = from;
-    while at < line.len() {
-        if line[at] != b' ' {
-            return at;
+impl<'a> Words<'a> {
+    pub fn of(line: &'a [u8]) -> Self
+        ensures rest { result.rest.now ≡ line.now }
+        ensures asked { result.asked ≡ 0 }
+    {
+        Words {
+            rest: line,
+            asked: 0,
         }
-        at += 1;
     }
-    at
+
+    // A word that is asked for counts also where the line has none.
+    pub fn take_word(&mut self) -> Result<&'a [u8], Fault>
+        ensures counted { self.new.asked ≡ min (self.old.asked + 1) (2 ^ 32 - 1) }
+        ensures word { IfOk result (λ word. (0 < length word.now) × All (λ byte. byte ≢ 32) word.now) }
+        ensures few { IsErr result ↔ All (λ byte. byte ≡ 32) self.old.rest.now }
+        ensures fault { IfErr result (λ fault. fault ≡ Fault.FewWords) }
+    {
+        self.asked = self.asked.saturating_add(1);
+        let (word, rest) = first_word(self.rest).ok_or(Fault::FewWords)?;
+        self.rest = rest;
+        Ok(word)
+    }
+
+    pub fn take_number(&mut self) -> Result<u32, Fault>
+        ensures { self.new.asked ≡ min (self.old.asked + 1) (2 ^ 32 - 1) }
+    {
+        let word = self.take_word()?;
+        let number = number_of(word).ok_or(Fault::NoNumber)?;
+        u32::try_from(number).map_err(|_| Fault::LargeNumber)
+    }
+
+    // No word may be left.
+    pub fn end(&mut self) -> Result<(), Fault>
+        ensures counted { self.new.asked ≡ min (self.old.asked + 1) (2 ^ 32 - 1) }
+        ensures ended { IsOk result ↔ All (λ byte. byte ≡ 32) self.old.rest.now }
+        ensures fault { IfErr result (λ fault. fault ≡ Fault.ManyWords) }
+    {
+        match self.take_word() {
+            Ok(_) => Err(Fault::ManyWords),
+            Err(_) => Ok(()),
+        }
+    }
 }
 
-// The next word; where the line has none it is empty, and missed. A line has few words, so their count never wraps.
-pub fn next(line: &[u8], mut r: Reader) -> Reader
-    requires { r.end ≤ length line.now }
-    ensures { (result.from ≤ result.end) × (result.end ≤ length line.now) }
+// The first word of a line, and the line after it.
+fn first_word(line: &[u8]) -> Option<(&[u8], &[u8])>
+    ensures word { IfSome result (λ parts. (0 < length parts.0.now) × All (λ byte. byte ≢ 32) parts.0.now) }
+    ensures none { IsNone result ↔ All (λ byte. byte ≡ 32) line.now }
 {
-    let from = past_spaces(line, r.end);
-    let end = find(line, from, line.len(), b' ');
-    r.from = from;
-    r.end = end;
-    r.word = r.word.wrapping_add((r.fault == FINE) as u8);
-    if from == end {
-        return failed(r, FEW_WORDS);
-    }
-    r
+    let start = line.iter().position(|byte| *byte != b' ')?;
+    let begun = &line[start..];
+    Some(begun.split_at(find(begun, 0, begun.len(), b' ')))
 }
 
-const MOST: u64 = 4294967295;
-
-// The value of a text that is not digits alone.
-pub const NONE: u64 = u64::MAX;
-
-// A number with a digit more. What is none stays none, and what is too large for 32 bits stays too large.
-fn longer(value: u64, digit: u8) -> u64 {
-    if digit < b'0' {
-        return NONE;
-    }
-    if digit > b'9' {
-        return NONE;
-    }
-    if value > MOST {
-        return value;
-    }
-    10 * value + (digit % 16) as u64
-}
-
-pub fn value_of(text: &[u8]) -> u64 {
-    if text.len() == 0 {
-        return NONE;
-    }
-    let mut value = 0;
-    for i in 0..text.len() {
-        value = longer(value, text[i]);
-    }
-    value
-}
-
-// The next word as a number.
-pub fn take_number(line: &[u8], r: Reader) -> Reader
-    requires { r.end ≤ length line.now }
-    ensures { result.end ≤ length line.now }
+// The number that digits alone make; one past 64 bits counts as the largest, since every limit lies far below it.
+pub fn number_of(text: &[u8]) -> Option<u64>
+    ensures { IsSome result ↔ (0 < length text.now) × All (λ byte. (48 ≤ byte) × (byte ≤ 57)) text.now }
 {
-    let mut taken = next(line, r);
-    let from = taken.from;
-    let end = taken.end;
-    let value = value_of(&line[from..end]);
-    if value == NONE {
-        return failed(taken, NO_NUMBER);
+    if text.is_empty() || !text.iter().all(|byte| byte.is_ascii_digit()) {
+        return None;
     }
-    if value > MOST {
-        return failed(taken, LARGE_NUMBER);
-    }
-    taken.n = value as u32;
-    taken
+    Some(text.iter().fold(0, longer))
+}
+
+// A number with a digit more, whose value stands in its low four bits.
+fn longer(number: u64, digit: &u8) -> u64 {
+    number
+        .saturating_mul(10)
+        .saturating_add(u64::from(*digit % 16))
 }

@@ -1,40 +1,52 @@
 // Prints the standard's rows that no quadratic undoes, each with the degree of its inverse, and how many they are.
 #![tactic(auto)]
 
-use asking::printing::{Written, field, number, say, status};
+use asking::printing::{Written, status};
+use qpp::InverseForm;
+use std::alloc::{AllocError, Global};
+use std::io;
 use std::process::ExitCode;
 use triples::Triple;
 
-fn show<R: Print>(rt: &R, t: Triple, degree: u32) {
-    number(rt, t.k);
-    field(rt, t.f1);
-    field(rt, t.f2);
-    field(rt, degree);
-    say(rt, b"\n")
+// A row of the standard, and the degree of its inverse.
+#[derive(Clone, Copy)]
+struct Row {
+    triple: Triple,
+    degree: u32,
 }
 
-// Shows a row whose inverse has a degree above 2, and counts it.
-fn judge<R: Print>(rt: &R, t: Triple, above: u32) -> u32 {
-    let degree = qpp::inverse(t.k, t.f1, t.f2).degree;
-    if degree <= 2 {
-        return above;
+impl From<Triple> for Row {
+    fn from(triple: Triple) -> Row {
+        let inverse = InverseForm::from(qpp::inverse(triple.k, triple.f1, triple.f2));
+        Row {
+            triple,
+            degree: inverse.degree,
+        }
     }
-    show(rt, t, degree);
-    above.wrapping_add(1)
 }
 
-fn judge_all<R: Print>(rt: &R) -> u32 {
-    let mut above = 0;
-    for t in standard::all_rows() {
-        above = judge(rt, *t, above);
+// The rows whose inverse has a degree above 2.
+fn steep_rows(alloc: Global) -> Result<Vec<Row>, AllocError> {
+    standard::all_rows()
+        .iter()
+        .map(|row| Row::from(*row))
+        .filter(|row| row.degree > 2)
+        .collect(alloc)
+}
+
+fn print_rows<R: Print>(rt: &R, rows: &[Row]) -> io::Result<()> {
+    for row in rows {
+        let Triple { k, f1, f2 } = row.triple;
+        println!(rt; "{k} {f1} {f2} {}", row.degree)?;
     }
-    above
+    println!(rt;
+        "{} of {} rows have D above 2",
+        rows.len(),
+        standard::all_rows().len()
+    )
 }
 
-fn main(rt: HostRuntime) -> ExitCode {
-    let above = judge_all(&rt);
-    number(&rt, above);
-    say(&rt, b" of");
-    field(&rt, standard::all_rows().len() as u32);
-    status(Written::of(rt.write_all(b" rows have D above 2\n")))
+fn main(rt: HostRuntime) -> Result<ExitCode, AllocError> {
+    let steep = steep_rows(rt.alloc())?;
+    Ok(status(Written::of(print_rows(&rt, &steep))))
 }

@@ -1,5 +1,0 @@
--- The turns left fall, so it ends.
-use Rattle.ask.proofs.run.Given as goal
-
-abbrev pub decreases-loop-turns : goal.decreases-loop-turns
-decreases-loop-turns g l = l.turns

@@ -1,0 +1,9 @@
+-- A list of bytes, whichever way it came.
+use Rattle.std.specs.Prelude.{ℕ, vec_len}
+use Rattle.asking.specs.declared.lists.Bytes.{Bytes}
+use Rattle.asking.specs.declared.lists.Bytes.TheVariants.{Numbers, Text}
+
+-- how many bytes it has
+abbrev pub size_of : Bytes → ℕ
+size_of (Numbers bytes) = vec_len bytes
+size_of (Text bytes) = vec_len bytes
