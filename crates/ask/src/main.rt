@@ -42,7 +42,7 @@ fn read_line<R: BufRead>(input: &mut R, line: &mut Vec<u8>) -> io::Result<bool> 
     Ok(count > 0)
 }
 
-// Only memory can fail on the way from the input to the line, but for the input itself.
+// Why no line could be read: the input fails, or there is no memory for it.
 fn unread(error: io::Error) -> Failure {
     match error.kind() {
         ErrorKind::OutOfMemory => Failure::Memory,
