@@ -165,7 +165,7 @@ impl List for Bytes {
 
     fn entries(&mut self) -> &mut [u8] {
         match self {
-            Bytes::Numbers(bytes) | Bytes::Text(bytes) => bytes,
+            Bytes::Text(bytes) | Bytes::Numbers(bytes) => bytes,
         }
     }
 
