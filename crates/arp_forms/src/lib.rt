@@ -26,7 +26,7 @@ fn period(odd: Triple) -> u32
     2 * q
 }
 
-// P and Q, and the odd form, which the shifts are made of.
+// P and Q, and the odd form, which the shifts are made of. `form_of` is no `From`: that would have to make a form of any triple.
 #[derive(Clone, Copy)]
 pub struct Form {
     pub p: u32,

@@ -50,6 +50,7 @@ fn show_checksum<W: Write>(out: &mut W, list: &Vec<u8>) -> io::Result<()> {
     write!(out, " {}", crc::of_list(list))
 }
 
+// What C is handed, field by field. No `Display`: these types are the library's, which writes nothing.
 fn show_value<W: Write>(out: &mut W, v: Value) -> io::Result<()> {
     show(out, &[v.number, v.value])
 }
@@ -97,6 +98,7 @@ fn answer_addresses<W: Write>(out: &mut W, t: Triple, mut list: Vec<u16>) -> io:
     show_list(out, &list)
 }
 
+// The library's movers by a triple, for either width; two, as the calls are two.
 fn interleave<T: Copy>(t: Triple, block: &mut [T], scratch: &mut [u8]) -> Result<(), Refusal> {
     qpp::interleave(t.k, t.f1, t.f2, block, scratch)
 }

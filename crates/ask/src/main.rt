@@ -29,20 +29,51 @@ enum Failure {
     Memory,
 }
 
-// Reads the next line into an empty buffer, without its newline, and answers whether there was one. Of a line that is too long one byte
-// more is kept than may be answered. A last line without its newline is a line like any other.
-fn read_line<R: BufRead>(input: &mut R, line: &mut Vec<u8>) -> io::Result<bool> {
-    let most = LONGEST as u64 + 1;
-    let count = input.by_ref().take(most).read_until(b'\n', line)?;
-    if line.last() == Some(&b'\n') {
-        line.pop();
-    } else if line.len() > LONGEST {
-        input.skip_until(b'\n')?;
-    }
-    Ok(count > 0)
+// How a part of the input ended.
+#[derive(Clone, Copy)]
+enum End {
+    Newline,
+    Input,
+    Room,
 }
 
-// Why no line could be read: the input fails, or there is no memory for it.
+// Reads on into an empty buffer: to a newline, which is not kept, to the end of the input, or until there is a byte more than may be answered.
+fn read_part<R: BufRead>(input: &mut R, part: &mut Vec<u8>) -> io::Result<End> {
+    let most = LONGEST as u64 + 1;
+    input.by_ref().take(most).read_until(b'\n', part)?;
+    if part.last() == Some(&b'\n') {
+        part.pop();
+        return Ok(End::Newline);
+    }
+    if part.len() > LONGEST {
+        return Ok(End::Room);
+    }
+    Ok(End::Input)
+}
+
+// Passes over the rest of a line that is too long. Nothing says that it ends, so it has as many parts as no run uses up.
+fn skip_rest<R: BufRead>(alloc: Global, input: &mut R) -> io::Result<End> {
+    let mut part = Vec::new(alloc);
+    for _ in 0..u64::MAX {
+        part.clear();
+        let end = read_part(input, &mut part)?;
+        if !matches!(end, End::Room) {
+            return Ok(end);
+        }
+    }
+    Ok(End::Input)
+}
+
+// Reads the next line into an empty buffer, and answers how it ended. Of a line that is too long one byte more is kept than may be answered. A
+// last line without its newline is a line like any other.
+fn read_line<R: BufRead>(alloc: Global, input: &mut R, line: &mut Vec<u8>) -> io::Result<End> {
+    match read_part(input, line)? {
+        End::Room => skip_rest(alloc, input),
+        end => Ok(end),
+    }
+}
+
+// Why no line could be read: the input fails, or there is no memory for it. No `From`: an error of writing is another failure.
 fn unread(error: io::Error) -> Failure {
     match error.kind() {
         ErrorKind::OutOfMemory => Failure::Memory,
@@ -67,20 +98,22 @@ fn answer(alloc: Global, line: &[u8]) -> io::Result<Vec<u8>> {
     Ok(out)
 }
 
-// Answers one line, or at the end of the input none.
+// Answers one line, or at the end of the input none, and says whether there may be more. What ended without a newline was the last.
 fn answer_next<R: Print, I: BufRead>(
     rt: &R,
     alloc: Global,
     input: &mut I,
 ) -> Result<bool, Failure> {
     let mut line = Vec::new(alloc);
-    if !read_line(input, &mut line).map_err(unread)? {
+    let end = read_line(alloc, input, &mut line).map_err(unread)?;
+    let goes_on = matches!(end, End::Newline);
+    if line.is_empty() && !goes_on {
         return Ok(false);
     }
     // An answer is made in memory, so nothing else can fail there.
     let answer = answer(alloc, &line).map_err(|_| Failure::Memory)?;
     match Written::of(rt.write_all(&answer)) {
-        Written::Whole => Ok(true),
+        Written::Whole => Ok(goes_on),
         last => Err(Failure::Unwritten(last)),
     }
 }
@@ -96,7 +129,7 @@ fn run<R: Print, I: Read + Drop>(rt: &R, alloc: Global, input: I) -> Result<(), 
     Err(Failure::Unread)
 }
 
-// How the writing ended. Whoever calls the program learns of a failure from standard error alone, and of a closed pipe not at all.
+// What the status is made of. Whoever calls the program learns of a failure from standard error alone, and of a closed pipe not at all.
 fn tell<R: Eprint>(rt: &R, outcome: Result<(), Failure>) -> Written {
     match outcome {
         Ok(()) => Written::Whole,

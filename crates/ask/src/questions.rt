@@ -76,6 +76,7 @@ fn take_call(alloc: Global, words: &mut Words<'_>) -> Result<Question, Trouble> 
     })
 }
 
+// `alloc` goes beside the words, and not with them: a call without lists takes no memory.
 fn take_triple(words: &mut Words<'_>) -> Result<Triple, Fault> {
     Ok(Triple {
         k: words.take_number()?,

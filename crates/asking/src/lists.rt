@@ -23,7 +23,7 @@ pub enum Trouble {
     Memory(#[from(alloc)] AllocError),
 }
 
-// The number of an entry, which may have a sign. Past 64 bits it is the least or the largest, which no entry is.
+// The number of an entry, which may have a minus; no `parse`, as in `number_of`. Past 64 bits it is the least or the largest, which no entry is.
 fn signed(text: &[u8]) -> Option<i64> {
     match text.strip_prefix(b"-".as_slice()) {
         Some(digits) => number_of(digits).map(|size| 0i64.saturating_sub_unsigned(size)),
@@ -94,7 +94,7 @@ pub trait List: Drop {
 
     fn entries(&mut self) -> &mut [Self::Entry];
 
-    // Written as it is read.
+    // Written as it is read. No `Display`: a text may be any bytes.
     fn show<W: Write>(&self, out: &mut W) -> io::Result<()>;
 }
 

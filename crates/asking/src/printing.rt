@@ -57,7 +57,8 @@ impl Written {
     }
 }
 
-// A program that met a closed pipe ends as the signal of it would end it: with 128 and its number, 13.
+// A program that met a closed pipe ends as the signal of it would end it: with 128 and its number, 13. A function, and no `From`: it is promised
+// under this name.
 pub fn status(last: Written) -> ExitCode
     ensures closed { last ≡ Written.Closed → exit_status result ≡ 141 }
     ensures other { last ≢ Written.Closed → exit_status result ≡ 0 }

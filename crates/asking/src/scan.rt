@@ -9,8 +9,8 @@ fn first(text: &[u8], byte: u8) -> Option<usize>
     text.iter().position(|b| *b == byte)
 }
 
-// Where the byte stands first from `from` on and before `to`, or else `to`. No `Option`: a word or an entry that no such byte follows
-// ends at `to`, and whoever asks cuts there.
+// Where the byte stands first from `from` on and before `to`, or else `to`, as `within` and `passed` promise. No `Option`: a word or an entry that
+// no such byte follows ends at `to`, and whoever asks cuts there.
 pub fn find(text: &[u8], from: usize, to: usize, byte: u8) -> usize
     requires { (from ≤ to) × (to ≤ length text.now) }
     ensures within { (from ≤ result) × (result ≤ to) }

@@ -57,6 +57,7 @@ impl<'a> Words<'a> {
         Ok(word)
     }
 
+    // The next word as a number.
     pub fn take_number(&mut self) -> Result<u32, Fault>
         ensures { self.new.asked ≡ min (self.old.asked + 1) (2 ^ 32 - 1) }
     {
@@ -88,7 +89,8 @@ fn first_word(line: &[u8]) -> Option<(&[u8], &[u8])>
     Some(begun.split_at(find(begun, 0, begun.len(), b' ')))
 }
 
-// The number that digits alone make; one past 64 bits counts as the largest, since every limit lies far below it.
+// The number that digits alone make; one past 64 bits counts as the largest, since every limit lies far below it. No `parse`: it takes a plus
+// before the digits, and tells of a number past 64 bits as of a letter.
 pub fn number_of(text: &[u8]) -> Option<u64>
     ensures { IsSome result ↔ (0 < length text.now) × All (λ byte. (48 ≤ byte) × (byte ≤ 57)) text.now }
 {

@@ -11,7 +11,8 @@ use std::io;
 use std::io::Read;
 use std::process::ExitCode;
 
-// Empties a buffer that may have no room for another card, and answers where the cards in it end.
+// Empties a buffer that may have no room for another card, and answers where the cards in it end. The buffer and that place stay two here and below,
+// since `cards::feed` takes them so and the buffer is emptied between its calls.
 fn make_room<R: Print>(rt: &R, out: &[u8], end: usize) -> io::Result<usize>
     requires { (end ≤ length out.now) × (room ≤ length out.now) }
     ensures { IfOk result (λ start. start + room ≤ length out.now) }
@@ -102,7 +103,8 @@ fn run<R: Print, I: Read>(
     Err(Failure::Unread(Written::of(rt.write_all(&out[..end]))))
 }
 
-// Whoever calls the program learns of a failure from standard error alone. Where a pipe was closed nobody is told.
+// Whoever calls the program learns of a failure from standard error alone. Where a pipe was closed nobody is told. No `Display`: two lines may be
+// due.
 fn tell<R: Eprint>(rt: &R, failure: Failure) {
     let last = failure.last_write();
     if matches!(last, Written::Closed) {

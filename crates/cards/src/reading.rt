@@ -15,6 +15,7 @@ fn run(text: &[u8]) -> usize
     text.iter().take_while(|byte| byte.is_ascii_digit()).count()
 }
 
+// No `parse`: it takes a `str` and may fail, and here are at most five bytes that are digits.
 fn value(digits: &[u8]) -> u32
     requires { Digits digits.now × (length digits.now ≤ most_digits) }
     ensures { result ≡ spelt 0 digits.now }

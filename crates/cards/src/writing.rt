@@ -54,7 +54,7 @@ impl Text {
         }
     }
 
-    // A number without leading zeros. No `write!`: it may fail, and nothing says that it does not where there is room.
+    // A number without leading zeros. No `write!`: it may fail, and nothing says that it does not where there is room; `card` cannot fail.
     pub fn push_number(&mut self, n: u32)
         requires { length self.old + length (decimal n) ≤ room }
         ensures { self.new ≡ self.old ++ decimal n }

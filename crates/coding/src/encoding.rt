@@ -17,7 +17,7 @@ fn put_tail(k: usize, tail: [u8; 4], list: &mut [u8])
 }
 
 // The three streams of a block of bits: the bits, the parities of both coders, and then the twelve bits of the tails, in the standard's order.
-// Each address comes from the one before it.
+// Each address comes from the one before it. Input and lists stay one by one, as C lends them.
 pub fn encode(t: Triple, input: &[u8], d0: &mut [u8], d1: &mut [u8], d2: &mut [u8])
     requires { Ready t input.now (length d0.old) (length d1.old) (length d2.old) }
     ensures { Streams t.k (block_of input.now) (shuffled (f t) input.now) d0.old d1.old d2.old d0.new d1.new d2.new }

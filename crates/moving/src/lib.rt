@@ -27,7 +27,7 @@ pub use deinterleaving::deinterleave;
 pub use interleaving::interleave;
 
 // Clears the bytes that hold a mark for each place, and no byte more: the rest of the scratch is the caller's.
-fn wipe(map: Map, scratch: &mut [u8])
+pub fn wipe(map: Map, scratch: &mut [u8])
     requires { Sound map × (marks_of map.k ≤ length scratch.old) }
     ensures { Cleared (marks_of map.k) scratch.old scratch.new }
 {
@@ -37,7 +37,7 @@ fn wipe(map: Map, scratch: &mut [u8])
 }
 
 // Marks the place i and answers where the map leads from it. It is marked as the walk leaves it, so that no later cycle begins there.
-fn step(map: Map, i: usize, scratch: &mut [u8]) -> usize
+pub fn step(map: Map, i: usize, scratch: &mut [u8]) -> usize
     requires { Sound map × (i < map.k) × (i / 8 < length scratch.old) }
     ensures { Followed (to map) i result scratch.old scratch.new }
 {

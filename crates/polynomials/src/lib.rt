@@ -54,7 +54,7 @@ pub fn reduce(k: u32, top: usize, q: &mut [u32; 14])
     }
 }
 
-// The highest place that is not 0; 0 if there is none. Nothing stands past top.
+// The highest place that is not 0; 0 if there is none, as `Degree` asks, and so no `Option`. Nothing stands past top.
 pub fn degree(top: usize, p: &[u32; 14]) -> usize
     requires { (top ≤ 13) × Ends top p.now }
     ensures { Degree (wholes p.now) result × (result ≤ 13) }

@@ -1,5 +1,6 @@
 // The coefficients of the rising products y(y + 1)…(y + n - 1), for n from 2 to 13: of each, those at the places 1 to n - 1. At the
-// place 0 there is none, and the one at the place n is 1. A constant would be laid out anew at each call that names it.
+// place 0 there is none, and the one at the place n is 1. They stand row after row with nothing between, as `Rows` has them: rows of one length would
+// be half zeros. A constant would be laid out anew at each call that names it.
 ghost use Rattle.std.specs.Prelude.{◌≡◌, ◌≤◌, ◌<◌, get_or};
 ghost use Rattle.polynomials.specs.RisingProducts.{rising};
 

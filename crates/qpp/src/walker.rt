@@ -81,7 +81,8 @@ fn standing(w: Walker) -> Result<(), Refusal>
     refusals::position(w.triple.k, w.at)
 }
 
-// A step asks this first and the refusal only if there is one, so that a walk that goes on makes none ready.
+// A step asks this first and the refusal only if there is one, so that a walk that goes on makes none ready: with `?` in this place a compiled step
+// takes 68 instructions and not 54.
 fn stands(w: Walker) -> bool
     ensures { IsTrue result ↔ First (step_tests w) 0 }
 {

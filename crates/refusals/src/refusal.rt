@@ -23,7 +23,7 @@ impl From<Refusal> for u32 {
     }
 }
 
-// The number of an answer: 0 where nothing is refused.
+// The number of an answer, for C: 0 where nothing is refused.
 pub fn number(answer: Result<(), Refusal>) -> u32
     ensures { result ≡ number answer }
 {

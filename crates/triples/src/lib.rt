@@ -9,8 +9,8 @@ ghost use Rattle.triples.specs.Shuffles.{f, InRange};
 
 pub use listing::fill;
 
-// A block length and two coefficients, as they came: nothing is known of them. That a triple is in range is a clause of the functions below
-// the calls, and no type of its own: the definitions and laws are said of a raw triple, and a narrower type would ask more of those who call
+// A block length and two coefficients, as they came: nothing is known of them. That a triple is in range is a clause of the functions that need
+// it, and no type of its own: the definitions and laws are said of a raw triple, and a narrower type would ask more of those who call
 // `place`, `odd_form`, `map_of`, `form_of` and the others that the README names.
 #[repr(C)]
 #[derive(Clone, Copy)]

@@ -19,7 +19,7 @@ fn lendable(k: u32, input: &[u8], n0: usize, n1: usize, n2: usize) -> Result<(),
     refusals::entries(entries, n2)
 }
 
-// Writes the streams of a block, each K bits and a tail of four.
+// Writes the streams of a block, each K bits and a tail of four. Input and lists come one by one, as C lends them.
 pub fn encode(
     k: u32,
     input: &[u8],
