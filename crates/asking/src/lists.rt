@@ -1,5 +1,5 @@
 // The lists of a line.
-ghost use Rattle.std.specs.Prelude.{◌≡◌, ℕ, ◌≤◌, IfOk, OnOk, vec_len};
+ghost use Rattle.std.specs.Prelude.{◌≡◌, ℕ, ◌≤◌, IfOk, OnOk, vec_len, length};
 
 use crate::printing::Joined;
 use crate::scan::find;
@@ -92,7 +92,8 @@ pub trait List: Drop {
     fn read(alloc: Global, word: &[u8]) -> Result<Self, Trouble>
         ensures { IfOk result (λ list. count list ≤ 8200) };
 
-    fn entries(&mut self) -> &mut [Self::Entry];
+    fn entries(&mut self) -> &mut [Self::Entry]
+        ensures { length result.now ≡ count self.old };
 
     // Written as it is read. No `Display`: a text may be any bytes.
     fn show<W: Write>(&self, out: &mut W) -> io::Result<()>;
