@@ -135,10 +135,10 @@ pub enum Bytes {
 }
 
 impl Bytes {
-    ghost use Rattle.asking.specs.Bytes.{size_of};
+    ghost use Rattle.asking.specs.Bytes.{bytes_of};
 
     pub fn into_vec(self) -> Vec<u8>
-        ensures { vec_len result ≡ size_of self }
+        ensures { result.items ≡ bytes_of self }
     {
         match self {
             Bytes::Numbers(bytes) | Bytes::Text(bytes) => bytes,

@@ -1,6 +1,8 @@
 // The words of a line, from left to right, and what may be wrong with them.
 
-ghost use Rattle.std.specs.Prelude.{◌≡◌, ◌≢◌, ◌+◌, ◌-◌, ◌^◌, ◌≤◌, ◌<◌, ◌↔◌, All, IsSome, IsNone, IsOk, IfSome, IfOk, IsErr, IfErr, length, min};
+ghost use Rattle.std.specs.Str.Parse.{digits_value};
+ghost use Rattle.asking.specs.Words.{BeginsWith, BeginsWithNumber, BeginsWithNone, BeginsWithLarge};
+ghost use Rattle.std.specs.Prelude.{◌≡◌, ◌≢◌, ◌⊎◌, ◌+◌, ◌-◌, ◌*◌, ◌^◌, ◌≤◌, ◌<◌, ◌↔◌, All, IsSome, IsNone, IsOk, IfSome, IfOk, IsErr, IsErrOf, IfErr, MatchOption, EachIndex, ℕ, length, slice_index, min};
 
 use crate::scan::find;
 use thiserror::Error;
@@ -47,9 +49,9 @@ impl<'a> Words<'a> {
     // A word that is asked for counts also where the line has none.
     pub fn take_word(&mut self) -> Result<&'a [u8], Fault>
         ensures counted { self.new.asked ≡ min (self.old.asked + 1) (2 ^ 32 - 1) }
-        ensures word { IfOk result (λ word. (0 < length word.now) × All (λ byte. byte ≢ 32) word.now) }
+        ensures word { IfOk result (λ word. BeginsWith self.old.rest.now word.now self.new.rest.now) }
         ensures few { IsErr result ↔ All (λ byte. byte ≡ 32) self.old.rest.now }
-        ensures fault { IfErr result (λ fault. fault ≡ Fault.FewWords) }
+        ensures fault { IfErr result (λ fault. (fault ≡ Fault.FewWords) × (self.new.rest ≡ self.old.rest)) }
     {
         self.asked = self.asked.saturating_add(1);
         let (word, rest) = first_word(self.rest).ok_or(Fault::FewWords)?;
@@ -59,7 +61,12 @@ impl<'a> Words<'a> {
 
     // The next word as a number.
     pub fn take_number(&mut self) -> Result<u32, Fault>
-        ensures { self.new.asked ≡ min (self.old.asked + 1) (2 ^ 32 - 1) }
+        ensures counted { self.new.asked ≡ min (self.old.asked + 1) (2 ^ 32 - 1) }
+        ensures number { IfOk result (λ number. BeginsWithNumber self.old.rest.now number self.new.rest.now) }
+        ensures few { IsErrOf result Fault.FewWords ↔ All (λ byte. byte ≡ 32) self.old.rest.now }
+        ensures none { IsErrOf result Fault.NoNumber → BeginsWithNone self.old.rest.now self.new.rest.now }
+        ensures kinds { IfErr result (λ fault. (fault ≡ Fault.FewWords) ⊎ (fault ≡ Fault.NoNumber) ⊎ (fault ≡ Fault.LargeNumber)) }
+        ensures large { IsErrOf result Fault.LargeNumber → BeginsWithLarge self.old.rest.now self.new.rest.now }
     {
         let word = self.take_word()?;
         let number = number_of(word).ok_or(Fault::NoNumber)?;
@@ -79,30 +86,53 @@ impl<'a> Words<'a> {
     }
 }
 
+// The first place that holds no space.
+fn first_other(line: &[u8]) -> Option<usize>
+    ensures { MatchOption result
+        (EachIndex line.now (λ k. slice_index line.now k ≡ 32))
+        (λ at. (at < length line.now) × (slice_index line.now at ≢ 32) × ((k : ℕ) → k < at → slice_index line.now k ≡ 32)) }
+{
+    line.iter().position(|byte| *byte != b' ')
+}
+
 // The first word of a line, and the line after it.
 fn first_word(line: &[u8]) -> Option<(&[u8], &[u8])>
-    ensures word { IfSome result (λ parts. (0 < length parts.0.now) × All (λ byte. byte ≢ 32) parts.0.now) }
+    ensures word { IfSome result (λ parts. BeginsWith line.now parts.0.now parts.1.now) }
     ensures none { IsNone result ↔ All (λ byte. byte ≡ 32) line.now }
 {
-    let start = line.iter().position(|byte| *byte != b' ')?;
-    let begun = &line[start..];
+    let start = first_other(line)?;
+    let (_, begun) = line.split_at(start);
     Some(begun.split_at(find(begun, 0, begun.len(), b' ')))
 }
 
 // The number that digits alone make; one past 64 bits counts as the largest, since every limit lies far below it. No `parse`: it takes a plus
 // before the digits, and tells of a number past 64 bits as of a letter.
 pub fn number_of(text: &[u8]) -> Option<u64>
-    ensures { IsSome result ↔ (0 < length text.now) × All (λ byte. (48 ≤ byte) × (byte ≤ 57)) text.now }
+    ensures some { IsSome result ↔ (0 < length text.now) × All (λ byte. (48 ≤ byte) × (byte ≤ 57)) text.now }
+    ensures value { IfSome result (λ number. number ≡ min (digits_value 10 text.now) (2 ^ 64 - 1)) }
 {
     if text.is_empty() || !text.iter().all(|byte| byte.is_ascii_digit()) {
         return None;
     }
-    Some(text.iter().fold(0, longer))
+    Some(value_of(text))
 }
 
-// A number with a digit more, whose value stands in its low four bits.
-fn longer(number: u64, digit: &u8) -> u64 {
+fn value_of(digits: &[u8]) -> u64
+    requires { All (λ byte. (48 ≤ byte) × (byte ≤ 57)) digits.now }
+    ensures { result ≡ min (digits_value 10 digits.now) (2 ^ 64 - 1) }
+{
+    let mut number: u64 = 0;
+    for &digit in digits {
+        number = longer(number, digit);
+    }
     number
-        .saturating_mul(10)
-        .saturating_add(u64::from(*digit % 16))
+}
+
+// A number with a digit more.
+fn longer(number: u64, digit: u8) -> u64
+    requires { (48 ≤ digit) × (digit ≤ 57) }
+    ensures { result ≡ min (number * 10 + (digit - 48)) (2 ^ 64 - 1) }
+{
+    let more = u64::from(digit - b'0');
+    number.saturating_mul(10).saturating_add(more)
 }

@@ -8,7 +8,7 @@ use lib.ListN.{get_or}
 use Rattle.std.specs.Prelude.{Result, Ok, Err}
 use Rattle.refusals.specs.declared.refusal.Refusal.{Refusal}
 use Rattle.refusals.specs.declared.refusal.Refusal.TheVariants.{Length, Coefficient, Shuffle, Block, Scratch, Position, List, Explained, Row}
-use Rattle.refusals.specs.Numbers.{number_of, number}
+use Rattle.refusals.specs.Numbers.{number_of}
 
 pub never_zero : (refusal : Refusal) → number_of refusal ≢ 0
 never_zero Length z = omega (arith, z)
@@ -40,10 +40,10 @@ pub number_of_one : {r s : Refusal} → number_of r ≡ number_of s → r ≡ s
 number_of_one {r} {s} e = sym (back r) ∙ ap of_number e ∙ back s
 
 -- an answer that is shown with its number tells itself: a refusal by the number, and what is done where that shows all of it
-module _ {A C : Type 0} (shown : Result A Refusal → C) (number_in : C → ℕ) (numbered : (r : Result A Refusal) → number_in (shown r) ≡ number r)
-    (whole : (a b : A) → shown (Ok a) ≡ shown (Ok b) → a ≡ b) where
+module _ {A C : Type 0} (shown : Result A Refusal → C) (number_in : C → ℕ) (done : (a : A) → number_in (shown (Ok a)) ≡ 0)
+    (refused : (r : Refusal) → number_in (shown (Err r)) ≡ number_of r) (whole : (a b : A) → shown (Ok a) ≡ shown (Ok b) → a ≡ b) where
   pub shown_one : (r s : Result A Refusal) → shown r ≡ shown s → r ≡ s
   shown_one (Ok a) (Ok b) e = ap Ok (whole a b e)
-  shown_one (Ok a) (Err q) e = absurd (never_zero q (sym (sym (numbered (Ok a)) ∙ ap number_in e ∙ numbered (Err q))))
-  shown_one (Err p) (Ok b) e = absurd (never_zero p (sym (numbered (Err p)) ∙ ap number_in e ∙ numbered (Ok b)))
-  shown_one (Err p) (Err q) e = ap Err (number_of_one (sym (numbered (Err p)) ∙ ap number_in e ∙ numbered (Err q)))
+  shown_one (Ok a) (Err q) e = absurd (never_zero q (sym (refused q) ∙ sym (ap number_in e) ∙ done a))
+  shown_one (Err p) (Ok b) e = absurd (never_zero p (sym (refused p) ∙ ap number_in e ∙ done b))
+  shown_one (Err p) (Err q) e = ap Err (number_of_one (sym (refused p) ∙ ap number_in e ∙ refused q))
