@@ -3,7 +3,6 @@
 
 use asking::printing::{Written, status};
 use qpp::InverseForm;
-use std::alloc::{AllocError, Global};
 use std::io;
 use std::process::ExitCode;
 use triples::Triple;
@@ -25,28 +24,21 @@ impl From<Triple> for Row {
     }
 }
 
-// The rows whose inverse has a degree above 2.
-fn steep_rows(alloc: Global) -> Result<Vec<Row>, AllocError> {
-    standard::all_rows()
-        .iter()
-        .map(|row| Row::from(*row))
-        .filter(|row| row.degree > 2)
-        .collect(alloc)
-}
-
-fn print_rows<R: Print>(rt: &R, rows: &[Row]) -> io::Result<()> {
-    for row in rows {
-        let Triple { k, f1, f2 } = row.triple;
-        println!(rt; "{k} {f1} {f2} {}", row.degree)?;
+// Prints the rows whose inverse has a degree above 2, each as it is found, and how many they are. No `Vec` of them: a program that takes no memory
+// cannot lack it.
+fn print_steep_rows<R: Print>(rt: &R) -> io::Result<()> {
+    let rows = standard::all_rows();
+    let mut steep = 0u32;
+    for row in rows.iter().map(|row| Row::from(*row)) {
+        if row.degree > 2 {
+            let Triple { k, f1, f2 } = row.triple;
+            println!(rt; "{k} {f1} {f2} {}", row.degree)?;
+            steep = steep.wrapping_add(1);
+        }
     }
-    println!(rt;
-        "{} of {} rows have D above 2",
-        rows.len(),
-        standard::all_rows().len()
-    )
+    println!(rt; "{steep} of {} rows have D above 2", rows.len())
 }
 
-fn main(rt: HostRuntime) -> Result<ExitCode, AllocError> {
-    let steep = steep_rows(rt.alloc())?;
-    Ok(status(Written::of(print_rows(&rt, &steep))))
+fn main(rt: HostRuntime) -> ExitCode {
+    status(Written::of(print_steep_rows(&rt)))
 }
