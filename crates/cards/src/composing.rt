@@ -1,13 +1,15 @@
 // The card of a line.
 ghost use Rattle.std.specs.Prelude.{◌≡◌, [], ◌∷◌, ◌++◌, ◌+◌, ◌*◌, ◌≤◌, length};
 ghost use Rattle.triples.specs.Shuffles.{Shuffle};
-ghost use Rattle.cards.specs.Texts.{fields, listing, Wrote};
+ghost use Rattle.cards.specs.Texts.{fields, listing, Appended, Wrote};
 ghost use Rattle.cards.specs.Cards.{room, members, unreadable_card, refused_word, ok_word, row, FactsOf, told, TripleCard, CardOf};
 ghost use Rattle.cards.specs.Widths.{field_room};
 
 use crate::reading::read;
 use crate::writing::Text;
 use triples::Triple;
+
+const UNREADABLE: &[u8] = b"unreadable\n";
 
 // What the card of a shuffle tells of it: the inverse, P, Q and the spread. The inverse is a degree and thirteen places, as `FactsOf` says
 // it, which is under the promise that no second card fits.
@@ -37,27 +39,26 @@ fn facts_of(t: Triple) -> Facts
     }
 }
 
-// The numbers of the triple, which every readable line's card begins with.
+// The numbers of the triple, which every readable line's card begins with. The text is lent and not handed back here and below: so no byte of it
+// is cleared or copied for a card.
 #[tactic(auto, using(crate::proofs::Decimals::decimal_length))]
-fn begin(t: Triple) -> Text
-    ensures text { result ≡ listing (members t) }
-    ensures short { length result ≤ 3 * field_room }
+fn begin(text: &mut Text, t: Triple)
+    ensures text { text.new ≡ listing (members t) }
+    ensures short { length text.new ≤ 3 * field_room }
 {
-    let mut text = Text::new();
+    text.clear();
     text.push_number(t.k);
     text.push_field(t.f1);
     text.push_field(t.f2);
-    text
 }
 
-fn refused(t: Triple, n: u32) -> Text
-    ensures { result ≡ row t refused_word (n ∷ []) }
+fn refused(text: &mut Text, t: Triple, n: u32)
+    ensures { text.new ≡ row t refused_word (n ∷ []) }
 {
-    let mut text = begin(t);
+    begin(text, t);
     text.push_word(b" refused");
     text.push_field(n);
     text.push(b'\n');
-    text
 }
 
 fn push_fields(text: &mut Text, numbers: &[u32])
@@ -70,44 +71,49 @@ fn push_fields(text: &mut Text, numbers: &[u32])
     }
 }
 
-fn accepted(t: Triple, facts: Facts) -> Text
+fn accepted(text: &mut Text, t: Triple, facts: Facts)
     requires { facts.degree ≤ 13 }
-    ensures { result ≡ row t ok_word (told facts) }
+    ensures { text.new ≡ row t ok_word (told facts) }
 {
-    let mut text = begin(t);
+    begin(text, t);
     text.push_word(b" ok");
     text.push_field(facts.degree);
-    push_fields(&mut text, &facts.a[..facts.degree as usize]);
-    push_fields(&mut text, &[facts.p, facts.q, facts.spread]);
+    push_fields(text, &facts.a[..facts.degree as usize]);
+    push_fields(text, &[facts.p, facts.q, facts.spread]);
     text.push(b'\n');
-    text
 }
 
 // The card of a line that reads as a triple.
-fn of_triple(t: Triple) -> Text
-    ensures { TripleCard t result }
+fn of_triple(text: &mut Text, t: Triple)
+    ensures { TripleCard t text.new }
 {
     match refusals::accept(t) {
-        Ok(()) => accepted(t, facts_of(t)),
-        Err(refusal) => refused(t, refusal.into()),
+        Ok(()) => accepted(text, t, facts_of(t)),
+        Err(refusal) => refused(text, t, refusal.into()),
     }
 }
 
-// The card of a line that is not readable.
-pub fn unreadable() -> Text
-    ensures { result ≡ unreadable_card }
+// The card of a line that is not readable: one word, which needs no text.
+pub fn unreadable(out: &mut [u8], at: usize) -> usize
+    requires { at + room ≤ length out.old }
+    ensures { Appended out.old at unreadable_card out.new result }
 {
-    let mut text = Text::new();
-    text.push_word(b"unreadable\n");
-    text
+    let end = at + UNREADABLE.len();
+    out[at..end].copy_from_slice(UNREADABLE);
+    end
 }
 
-fn card_of(line: &[u8]) -> Text
-    ensures { CardOf line.now result }
+// Writes the card of a line, which comes without its newline, by a text that is lent for it.
+pub fn write_card(line: &[u8], text: &mut Text, out: &mut [u8], at: usize) -> usize
+    requires { at + room ≤ length out.old }
+    ensures { Wrote (CardOf line.now) out.old at out.new result }
 {
     match read(line) {
-        Some(t) => of_triple(t),
-        None => unreadable(),
+        Some(t) => {
+            of_triple(text, t);
+            text.write(out, at)
+        }
+        None => unreadable(out, at),
     }
 }
 
@@ -116,5 +122,5 @@ pub fn card(line: &[u8], out: &mut [u8], at: usize) -> usize
     requires { at + room ≤ length out.old }
     ensures { Wrote (CardOf line.now) out.old at out.new result }
 {
-    card_of(line).write(out, at)
+    write_card(line, &mut Text::new(), out, at)
 }

@@ -3,7 +3,8 @@ ghost use Rattle.std.specs.Prelude.{List, [], ◌∷◌, ◌++◌, ℕ, ◌+◌,
 ghost use Rattle.cards.specs.Cards.{room, CardOf};
 ghost use Rattle.cards.specs.Output.{Holding, WroteFor};
 
-use crate::composing::card;
+use crate::composing::write_card;
+use crate::writing::Text;
 
 // One more than a readable line has.
 const KEPT: usize = 18;
@@ -41,6 +42,14 @@ impl Line {
         requires { at + room ≤ length out.old }
         ensures { WroteFor CardOf self out.old at out.new result }
     {
-        card(&self.bytes[..self.size.min(KEPT)], out, at)
+        write_line(self, &mut Text::new(), out, at)
     }
+}
+
+// Writes the card of a line by a text that is lent for it.
+pub fn write_line(line: Line, text: &mut Text, out: &mut [u8], at: usize) -> usize
+    requires { at + room ≤ length out.old }
+    ensures { WroteFor CardOf line out.old at out.new result }
+{
+    write_card(&line.bytes[..line.size.min(KEPT)], text, out, at)
 }

@@ -4,16 +4,16 @@ ghost use Rattle.cards.specs.Cards.{room};
 ghost use Rattle.cards.specs.Output.{Output, WroteFor, Prints, FedBy};
 
 use crate::composing::unreadable;
-use crate::lines::Line;
-use crate::writing::ROOM;
+use crate::lines::{Line, write_line};
+use crate::writing::{ROOM, Text};
 
-// Takes a byte of a line: gives the line that has not ended, and where the cards end in the buffer.
-fn take_byte(line: Line, byte: u8, out: &mut [u8], at: usize) -> (Line, usize)
+// Takes a byte of a line: gives the line that has not ended, and where the cards end in the buffer. The text serves the card.
+fn take_byte(line: Line, byte: u8, text: &mut Text, out: &mut [u8], at: usize) -> (Line, usize)
     requires { at + room ≤ length out.old }
     ensures { WroteFor (Prints (byte ∷ []) result.0) line out.old at out.new result.1 }
 {
     if byte == b'\n' {
-        let end = line.card(out, at);
+        let end = write_line(line, text, out, at);
         return (Line::new(), end);
     }
     (line.push(byte), at)
@@ -35,11 +35,12 @@ pub fn feed(piece: &[u8], unended: Line, out: &mut [u8], at: usize) -> Fed
 {
     let mut line = unended;
     let mut end = at;
+    let mut text = Text::new();
     for (taken, &byte) in piece.iter().enumerate() {
         if out.len() - end < ROOM {
             return Fed { taken, line, end };
         }
-        (line, end) = take_byte(line, byte, out, end);
+        (line, end) = take_byte(line, byte, &mut text, out, end);
     }
     Fed {
         taken: piece.len(),
@@ -56,5 +57,5 @@ pub fn finish(line: Line, out: &mut [u8], at: usize) -> usize
     if line.size == 0 {
         return at;
     }
-    unreadable().write(out, at)
+    unreadable(out, at)
 }

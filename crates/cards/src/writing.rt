@@ -1,4 +1,4 @@
-// The text of a card, which grows piece by piece and is then written into a lent buffer.
+// The text of a card, which grows piece by piece and is then written into a lent buffer. One text serves card after card.
 ghost use Rattle.std.specs.Prelude.{◌≡◌, List, [], ◌∷◌, ◌++◌, ℕ, ◌+◌, ◌≤◌, ◌<◌, length, take};
 ghost use Rattle.cards.specs.Texts.{space, decimal, Appended};
 ghost use Rattle.cards.specs.Cards.{room};
@@ -35,6 +35,13 @@ impl Text {
             bytes: [0; ROOM],
             size: 0,
         }
+    }
+
+    // Begins anew. What stands past the size counts for nothing, so that no byte is cleared.
+    pub fn clear(&mut self)
+        ensures { self.new ≡ [] }
+    {
+        self.size = 0;
     }
 
     pub fn push(&mut self, byte: u8)

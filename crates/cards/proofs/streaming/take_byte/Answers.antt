@@ -5,7 +5,7 @@ use Rattle.cards.proofs.streaming.take_byte.Goals as goal
 
 pub returns-then-byte-eq10 : goal.returns-then-byte-eq10
 returns-then-byte-eq10 c =
-    took_line (omega arith) c.card-end.ensures c.new.ensures
+    took_line (omega arith) c.write_line-end.ensures c.new.ensures
 
 pub returns : goal.returns
 returns c = took_byte (omega arith) (omega arith) c.push.ensures
