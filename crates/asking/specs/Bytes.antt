@@ -1,4 +1,4 @@
--- A list of bytes, whichever way it came.
+-- To be believed: the bytes of a list, whichever way it came.
 use Rattle.std.specs.Prelude.{List, ℕ, vec_len}
 use Rattle.asking.specs.declared.lists.Bytes.{Bytes}
 use Rattle.asking.specs.declared.lists.Bytes.TheVariants.{Numbers, Text}

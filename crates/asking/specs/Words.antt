@@ -1,4 +1,4 @@
--- Which word a line begins with, and which number.
+-- To be believed: which word a line begins with, and which number.
 use Rattle.std.specs.Prelude.{◌≡◌, ◌≢◌, List, ◌++◌, ℕ, ◌^◌, ◌≤◌, ◌<◌, length, slice_index, All}
 use Rattle.std.specs.Str.Parse.{digits_value}
 

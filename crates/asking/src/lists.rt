@@ -57,7 +57,12 @@ impl<T: Copy + TryFrom<i64, Error = TryFromIntError>> Entries<T> {
         if size > LONGEST {
             return Err(Trouble::Word(Fault::LongList));
         }
-        self.items.resize(size as usize, entry)?;
+        // Most entries stand once, and a push takes less.
+        if times == 1 {
+            self.items.push(entry)?;
+        } else {
+            self.items.resize(size as usize, entry)?;
+        }
         Ok(())
     }
 
