@@ -112,11 +112,10 @@ fn answer_next<R: Print, I: BufRead>(
     }
     // An answer is made in memory, so nothing else can fail there.
     let answer = answer(alloc, &line).map_err(|_| Failure::Memory)?;
-    let last = Written::of(rt.write_all(&answer));
-    if last.is_whole() {
-        return Ok(goes_on);
+    match Written::of(rt.write_all(&answer)) {
+        Written::Whole => Ok(goes_on),
+        last => Err(Failure::Unwritten(last)),
     }
-    Err(Failure::Unwritten(last))
 }
 
 // A proved loop has to end, and nothing says that the input does. So the loop counts its turns, up to a number that no run uses up.

@@ -39,8 +39,8 @@ fn facts_of(t: Triple) -> Facts
     }
 }
 
-// The numbers of the triple, which every readable line's card begins with. The text is lent and not handed back here and below: so no byte of it
-// is cleared or copied for a card.
+// The numbers of the triple, which every readable line's card begins with. Here and below the text is lent and not handed back, so that it
+// is neither cleared nor moved for a card.
 #[tactic(auto, using(crate::proofs::Decimals::decimal_length))]
 fn begin(text: &mut Text, t: Triple)
     ensures text { text.new ≡ listing (members t) }
@@ -103,7 +103,7 @@ pub fn unreadable(out: &mut [u8], at: usize) -> usize
     end
 }
 
-// Writes the card of a line, which comes without its newline, by a text that is lent for it.
+// Writes the card of a line, which comes without its newline, by a text that is lent for it, and answers where the card ends.
 pub fn write_card(line: &[u8], text: &mut Text, out: &mut [u8], at: usize) -> usize
     requires { at + room ≤ length out.old }
     ensures { Wrote (CardOf line.now) out.old at out.new result }

@@ -46,7 +46,7 @@ impl Line {
     }
 }
 
-// Writes the card of a line by a text that is lent for it.
+// Writes the card of a line by a text that is lent for it, and answers where it ends. No method: a text is known to this crate alone.
 pub fn write_line(line: Line, text: &mut Text, out: &mut [u8], at: usize) -> usize
     requires { at + room ≤ length out.old }
     ensures { WroteFor CardOf line out.old at out.new result }

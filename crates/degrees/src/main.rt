@@ -24,17 +24,19 @@ impl From<Triple> for Row {
     }
 }
 
-// Prints the rows whose inverse has a degree above 2, each as it is found, and how many they are. No `Vec` of them: a program that takes no memory
-// cannot lack it.
+// Prints the rows whose inverse has a degree above 2, each as it is found, and how many they are. No `Vec` of them: a program that takes no
+// memory cannot lack it.
 fn print_steep_rows<R: Print>(rt: &R) -> io::Result<()> {
     let rows = standard::all_rows();
     let mut steep = 0u32;
-    for row in rows.iter().map(|row| Row::from(*row)) {
-        if row.degree > 2 {
-            let Triple { k, f1, f2 } = row.triple;
-            println!(rt; "{k} {f1} {f2} {}", row.degree)?;
-            steep = steep.wrapping_add(1);
-        }
+    for row in rows
+        .iter()
+        .map(|row| Row::from(*row))
+        .filter(|row| row.degree > 2)
+    {
+        let Triple { k, f1, f2 } = row.triple;
+        println!(rt; "{k} {f1} {f2} {}", row.degree)?;
+        steep = steep.wrapping_add(1);
     }
     println!(rt; "{steep} of {} rows have D above 2", rows.len())
 }
